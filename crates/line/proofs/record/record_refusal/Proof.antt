@@ -1,0 +1,57 @@
+-- `line::record_refusal` meets its contract: at each `return` the tests that led there decide the definition's. Assumes nothing.
+use borrow.Author.Tests.{lt-ltb, le-ltb}
+use Rattle.line.specs.Record.{recordRefusal}
+use Rattle.line.proofs.record.record_refusal.Statement.{statement}
+use Rattle.line.proofs.record.record_refusal.Tie as tie
+
+returns : tie.Need-returns
+unfolding recordRefusal
+returns c = simp (lt-ltb _ _ (c .if1 .taken))
+
+returns-2 : tie.Need-returns-2
+unfolding recordRefusal
+returns-2 c = simp (le-ltb _ _ (c .before .if1 .left), lt-ltb _ _ (c .if2 .taken))
+
+returns-3 : tie.Need-returns-3
+unfolding recordRefusal
+returns-3 c =
+    simp (le-ltb _ _ (c .before .before .if1 .left), le-ltb _ _ (c .before .if2 .left), lt-ltb _ _ (c .if3 .taken))
+
+returns-4 : tie.Need-returns-4
+unfolding recordRefusal
+returns-4 c =
+    let p = c .before .before in
+    simp (
+      le-ltb _ _ (p .before .if1 .left),
+      le-ltb _ _ (p .if2 .left),
+      le-ltb _ _ (c .before .if3 .left),
+      lt-ltb _ _ (c .if4 .taken),
+    )
+
+returns-5 : tie.Need-returns-5
+unfolding recordRefusal
+returns-5 c =
+    let p = c .before .before .before in
+    simp (
+      le-ltb _ _ (p .before .if1 .left),
+      le-ltb _ _ (p .if2 .left),
+      le-ltb _ _ (c .before .before .if3 .left),
+      le-ltb _ _ (c .before .if4 .left),
+      lt-ltb _ _ (c .if5 .taken),
+    )
+
+returns-6 : tie.Need-returns-6
+unfolding recordRefusal
+returns-6 c =
+    let p = c .before .before .before in
+    simp (
+      le-ltb _ _ (p .before .if1 .left),
+      le-ltb _ _ (p .if2 .left),
+      le-ltb _ _ (c .before .before .if3 .left),
+      le-ltb _ _ (c .before .if4 .left),
+      le-ltb _ _ (c .if5 .left),
+    )
+
+pub record-refusal-spec : {M : Type 1} → statement M
+record-refusal-spec =
+    tie.close (tie.spec returns returns-2 returns-3 returns-4 returns-5 returns-6)
