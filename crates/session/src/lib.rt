@@ -1,0 +1,2 @@
+// The desk's work: loading files.
+pub mod load;
