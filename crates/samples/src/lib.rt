@@ -1,0 +1,2 @@
+// Sample logs: a log's next sample.
+pub mod log;
