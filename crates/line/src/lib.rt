@@ -1,2 +1,5 @@
 // ESP32 line calibration: the line record, and what it is decoded from and converts.
+mod characterize;
+mod code;
+pub mod decode;
 pub mod record;
