@@ -1,2 +1,4 @@
+pub mod Codes
+pub mod Coefficients
 pub mod Records
 pub mod Unique

@@ -2,7 +2,7 @@
 -- `read_efuse_tp_low` and `read_efuse_tp_high` of calibration/line/esp32.rs, which cites ESP-IDF's
 -- components/esp_adc/esp32/adc_cali_line_fitting.c, line 155.
 use mathlib.Core.Bool.{cond}
-use Prim.Native.Nat.{ℕ, _-_, _%_, _^_}
+use Prim.Native.Nat.{ℕ, _*_, _-_, _%_, _^_, _≤_, _<_}
 use lib.Dec.{ltb, eqb}
 use lib.IntN.{ℤ, pos, negℤ, natAbs, _+ℤ_, _*ℤ_}
 use Rattle.terms.specs.Sign.{signMagnitude}
@@ -32,6 +32,14 @@ twoPointCode width bits =
 -- a base "+ 4 × code"
 unfoldable pub pointOf : ℕ → ℕ → ℕ → ℕ
 pointOf base width bits = stepped base 4 (twoPointCode width bits)
+
+-- a code of that width, at a base that it doesn't take below zero
+pub record Coded (base width bits : ℕ) : Type 0 where
+  pub some : 1 ≤ width
+  pub short : width ≤ 9
+  pub inside : bits < 2 ^ width
+  pub room : 4 * 2 ^ (width - 1) ≤ base
+  pub most : base ≤ 3406
 
 -- "low = 278 or 421 + 4 × code"
 abbrev pub lowOf : ℕ → ℕ → ℕ

@@ -28,37 +28,47 @@ struct Atten {
     offset: u32,
 }
 
-// ADC1_TP_ATTEN_SCALE with ADC1_TP_ATTEN_OFFSET, then ADC2_TP_ATTEN_SCALE with ADC2_TP_ATTEN_OFFSET.
+// Of ADC1_TP_ATTEN_SCALE and ADC1_TP_ATTEN_OFFSET, or ADC2_TP_ATTEN_SCALE and ADC2_TP_ATTEN_OFFSET.
 fn tp_atten(unit: u8, atten: u8) -> Atten
-    requires { ⌜ (unit ≤ 1) × (atten ≤ 3) ⌝ }
+    requires { ⌜ atten ≤ 3 ⌝ }
     ensures { λ r. ⌜ (r .scale ≡ tpScale unit atten) × (r .offset ≡ tpOffset unit atten) ⌝ }
 {
-    match 4 * unit + atten {
-        0 => Atten { scale: 65504, offset: 0 },
-        1 => Atten { scale: 86975, offset: 1 },
-        2 => Atten { scale: 120389, offset: 27 },
-        3 => Atten { scale: 224310, offset: 54 },
-        4 => Atten { scale: 65467, offset: 0 },
-        5 => Atten { scale: 86861, offset: 9 },
-        6 => Atten { scale: 120416, offset: 26 },
-        _ => Atten { scale: 224708, offset: 66 },
+    if unit == 0 {
+        match atten {
+            0 => Atten { scale: 65504, offset: 0 },
+            1 => Atten { scale: 86975, offset: 1 },
+            2 => Atten { scale: 120389, offset: 27 },
+            _ => Atten { scale: 224310, offset: 54 },
+        }
+    } else {
+        match atten {
+            0 => Atten { scale: 65467, offset: 0 },
+            1 => Atten { scale: 86861, offset: 9 },
+            2 => Atten { scale: 120416, offset: 26 },
+            _ => Atten { scale: 224708, offset: 66 },
+        }
     }
 }
 
-// ADC1_VREF_ATTEN_SCALE with ADC1_VREF_ATTEN_OFFSET, then ADC2_VREF_ATTEN_SCALE with ADC2_VREF_ATTEN_OFFSET.
+// Of ADC1_VREF_ATTEN_SCALE and ADC1_VREF_ATTEN_OFFSET, or ADC2_VREF_ATTEN_SCALE and ADC2_VREF_ATTEN_OFFSET.
 fn vref_atten(unit: u8, atten: u8) -> Atten
-    requires { ⌜ (unit ≤ 1) × (atten ≤ 3) ⌝ }
+    requires { ⌜ atten ≤ 3 ⌝ }
     ensures { λ r. ⌜ (r .scale ≡ vrefScale unit atten) × (r .offset ≡ vrefOffset unit atten) ⌝ }
 {
-    match 4 * unit + atten {
-        0 => Atten { scale: 57431, offset: 75 },
-        1 => Atten { scale: 76236, offset: 78 },
-        2 => Atten { scale: 105481, offset: 107 },
-        3 => Atten { scale: 196602, offset: 142 },
-        4 => Atten { scale: 57236, offset: 63 },
-        5 => Atten { scale: 76175, offset: 66 },
-        6 => Atten { scale: 105678, offset: 89 },
-        _ => Atten { scale: 197170, offset: 128 },
+    if unit == 0 {
+        match atten {
+            0 => Atten { scale: 57431, offset: 75 },
+            1 => Atten { scale: 76236, offset: 78 },
+            2 => Atten { scale: 105481, offset: 107 },
+            _ => Atten { scale: 196602, offset: 142 },
+        }
+    } else {
+        match atten {
+            0 => Atten { scale: 57236, offset: 63 },
+            1 => Atten { scale: 76175, offset: 66 },
+            2 => Atten { scale: 105678, offset: 89 },
+            _ => Atten { scale: 197170, offset: 128 },
+        }
     }
 }
 

@@ -1,9 +1,9 @@
 // The signed codes: Vref in sign and magnitude, two-point codes in two's complement but for one pattern. In the crate: `decode_bits`.
 ghost use mathlib.Core.Path.{_≡_};
-ghost use Prim.Native.Nat.{_*_, _-_, _^_, _≤_, _<_};
-ghost use Rattle.line.specs.Code.{byUnit, vrefOf, pointOf, lowOf, highOf};
+ghost use Prim.Native.Nat.{_-_, _^_, _≤_, _<_};
+ghost use Rattle.line.specs.Code.{byUnit, vrefOf, pointOf, Coded, lowOf, highOf};
 
-const VREF_SIGN: u32 = 16;
+const VREF_WIDTH: u32 = 5;
 
 const VREF_STEP_SIZE: u32 = 7;
 
@@ -30,24 +30,33 @@ pub(crate) fn by_unit(unit: u8, adc1: u32, adc2: u32) -> u32
     if unit == 0 { adc1 } else { adc2 }
 }
 
+// What the sign bit of a width is worth.
+fn sign_bit(width: u32) -> u32
+    requires { ⌜ (1 ≤ width) × (width ≤ 32) ⌝ }
+    ensures { λ r. ⌜ r ≡ 2 ^ (width - 1) ⌝ }
+{
+    1 << (width - 1)
+}
+
 // Vref in millivolts, from its five bits.
 pub(crate) fn efuse_vref(bits: u32) -> u32
     requires { ⌜ bits < 32 ⌝ }
     ensures { λ r. ⌜ r ≡ vrefOf bits ⌝ }
 {
-    if bits < VREF_SIGN {
+    let sign = sign_bit(VREF_WIDTH);
+    if bits < sign {
         VREF_OFFSET + VREF_STEP_SIZE * bits
     } else {
-        VREF_OFFSET - VREF_STEP_SIZE * (bits - VREF_SIGN)
+        VREF_OFFSET - VREF_STEP_SIZE * (bits - sign)
     }
 }
 
 // The count that a two-point code of any width stands for: its magnitude is what a wrapping negation leaves below the sign bit.
 fn efuse_tp(base: u32, width: u32, bits: u32) -> u32
-    requires { ⌜ (1 ≤ width) × (width ≤ 9) × (bits < 2 ^ width) × (4 * 2 ^ (width - 1) ≤ base) × (base ≤ 3406) ⌝ }
+    requires { ⌜ Coded base width bits ⌝ }
     ensures { λ r. ⌜ r ≡ pointOf base width bits ⌝ }
 {
-    let sign: u32 = 1 << (width - 1);
+    let sign = sign_bit(width);
     if bits < sign {
         base + TP_STEP_SIZE * bits
     } else {

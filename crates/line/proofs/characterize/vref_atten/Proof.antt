@@ -1,60 +1,44 @@
-use borrow.Author.Needs.{needs}
+-- `line::vref_atten` meets its contract: in each arm the unit and the attenuation are known. Assumes nothing.
+use mathlib.Core.Path.{_≡_, refl}
+use native.Mathlib.Omega.{arith}
+use borrow.Author.Tests.{eq-eqb, ne-eqb}
+use Rattle.line.specs.Characterize.{vrefScale, vrefOffset}
 use Rattle.line.proofs.characterize.vref_atten.Statement.{statement}
 use Rattle.line.proofs.characterize.vref_atten.Tie as tie
-use Rattle.line.proofs.characterize.vref_atten.Reads as reads
-use Rattle.line.proofs.characterize.vref_atten.Lts as lts
 
--- src/characterize.rt:53:11
-mul-match : tie.Need-mul-match
-mul-match c = search needs
-
--- src/characterize.rt:53:11
-add-match : tie.Need-add-match
-add-match c = search needs
-
--- src/characterize.rt:49:1
 returns : tie.Need-returns
-returns c = ?
+unfolding vrefScale vrefOffset
+returns c = let a : c .before .before .args .atten ≡ 0 = omega arith in rw (eq-eqb _ _ (c .before .if1 .taken), a) (refl, refl)
 
--- src/characterize.rt:49:1
 returns-2 : tie.Need-returns-2
-returns-2 c = ?
+unfolding vrefScale vrefOffset
+returns-2 c = let a : c .before .before .args .atten ≡ 1 = omega arith in rw (eq-eqb _ _ (c .before .if1 .taken), a) (refl, refl)
 
--- src/characterize.rt:49:1
 returns-3 : tie.Need-returns-3
-returns-3 c = ?
+unfolding vrefScale vrefOffset
+returns-3 c = let a : c .before .before .args .atten ≡ 2 = omega arith in rw (eq-eqb _ _ (c .before .if1 .taken), a) (refl, refl)
 
--- src/characterize.rt:49:1
 returns-4 : tie.Need-returns-4
-returns-4 c = ?
+unfolding vrefScale vrefOffset
+returns-4 c = let a : c .before .before .args .atten ≡ 3 = omega arith in rw (eq-eqb _ _ (c .before .if1 .taken), a) (refl, refl)
 
--- src/characterize.rt:49:1
 returns-5 : tie.Need-returns-5
-returns-5 c = ?
+unfolding vrefScale vrefOffset
+returns-5 c = let a : c .before .before .args .atten ≡ 0 = omega arith in rw (ne-eqb _ _ (c .before .if1 .left), a) (refl, refl)
 
--- src/characterize.rt:49:1
 returns-6 : tie.Need-returns-6
-returns-6 c = ?
+unfolding vrefScale vrefOffset
+returns-6 c = let a : c .before .before .args .atten ≡ 1 = omega arith in rw (ne-eqb _ _ (c .before .if1 .left), a) (refl, refl)
 
--- src/characterize.rt:49:1
 returns-7 : tie.Need-returns-7
-returns-7 c = ?
+unfolding vrefScale vrefOffset
+returns-7 c = let a : c .before .before .args .atten ≡ 2 = omega arith in rw (ne-eqb _ _ (c .before .if1 .left), a) (refl, refl)
 
--- src/characterize.rt:49:1
 returns-8 : tie.Need-returns-8
-returns-8 c = ?
+unfolding vrefScale vrefOffset
+returns-8 c = let a : c .before .before .args .atten ≡ 3 = omega arith in rw (ne-eqb _ _ (c .before .if1 .left), a) (refl, refl)
 
 pub vref-atten-spec : {M : Type 1} → statement M
 vref-atten-spec =
     tie.close
-    (tie.spec
-    mul-match
-    add-match
-    returns
-    returns-2
-    returns-3
-    returns-4
-    returns-5
-    returns-6
-    returns-7
-    returns-8)
+    (tie.spec returns returns-2 returns-3 returns-4 returns-5 returns-6 returns-7 returns-8)

@@ -1,22 +1,19 @@
+-- `line::efuse_tp_high` meets its contract: either unit's base has room for the lowest code. Assumes nothing.
+use mathlib.Core.Path.{_∙_}
 use borrow.Author.Needs.{needs}
+use Rattle.line.specs.Code.{pointOf}
+use Rattle.line.proofs.Codes.{high-coded}
 use Rattle.line.proofs.code.efuse_tp_high.Statement.{statement}
 use Rattle.line.proofs.code.efuse_tp_high.Tie as tie
-use Rattle.line.proofs.code.efuse_tp_high.Reads as reads
-use Rattle.line.proofs.code.efuse_tp_high.Lts as lts
-use Rattle.line.proofs.code.by_unit.Reads as by-unit-reads
-use Rattle.line.proofs.code.efuse_tp.Reads as efuse-tp-reads
 
--- src/code.rt:71:14
 by-unit-requires : tie.Need-by-unit-requires
 by-unit-requires c κs = search needs
 
--- src/code.rt:71:5
 efuse-tp-requires : tie.Need-efuse-tp-requires
-efuse-tp-requires c κs = ?
+efuse-tp-requires c κs = rw (c .by-unit .ensures) (high-coded (c .before .args .unit) _ (c .before .pre))
 
--- src/code.rt:67:1
 returns : tie.Need-returns
-returns c = ?
+returns c = c .efuse-tp .ensures ∙ rw (c .before .by-unit .ensures)
 
 pub efuse-tp-high-spec : {M : Type 1} → statement M
 efuse-tp-high-spec = tie.close (tie.spec by-unit-requires efuse-tp-requires returns)
