@@ -13,7 +13,7 @@ use Rattle.terms.specs.Sign.{signMagnitude}
 use Rattle.terms.proofs.Order.{either}
 use Rattle.terms.proofs.Sign.{sign-plus, sign-minus, sign-fits}
 use Rattle.terms.proofs.Whole.{up, dn, sum-is, up-neg, dn-neg, up-times, dn-times, not-negative}
-use Rattle.line.specs.Code.{byUnit, stepped, vrefOf, wrapped, twoPointCode, pointOf, Coded, lowOf, highOf}
+use Rattle.line.specs.Code.{byUnit, stepped, vrefOf, wrapped, twoPointCode, pointOf, Coded, lowOf, highOf, Apart}
 
 -- base + step × code, where it isn't negative
 module _ (base step : ℕ) (code : ℤ) (room : step * dn code ≤ base) where
@@ -128,11 +128,15 @@ high-base : (adc1 : Bool) (bits : ℕ) → bits < 512 → Coded (cond adc1 3265 
 high-base true bits h = record { some = lit≤ tt; short = lit≤ tt; inside = h; room = lit≤ tt; most = lit≤ tt }
 high-base false bits h = record { some = lit≤ tt; short = lit≤ tt; inside = h; room = lit≤ tt; most = lit≤ tt }
 
-apart : (adc1 : Bool) (low high : ℕ)
-    → (pointOf (cond adc1 278 421) 7 low + 1713 ≤ pointOf (cond adc1 3265 3406) 9 high)
-    × (pointOf (cond adc1 3265 3406) 9 high ≤ 4426)
-apart true low high = omega (arith, point-range 278 7 low (lit≤ tt), point-range 3265 9 high (lit≤ tt))
-apart false low high = omega (arith, point-range 421 7 low (lit≤ tt), point-range 3406 9 high (lit≤ tt))
+apart : (adc1 : Bool) (low high : ℕ) → Apart (pointOf (cond adc1 278 421) 7 low) (pointOf (cond adc1 3265 3406) 9 high)
+apart true low high =
+    let l = point-range 278 7 low (lit≤ tt) in
+    let h = point-range 3265 9 high (lit≤ tt) in
+    record { least = omega arith; most = omega arith }
+apart false low high =
+    let l = point-range 421 7 low (lit≤ tt) in
+    let h = point-range 3406 9 high (lit≤ tt) in
+    record { least = omega arith; most = omega arith }
 
 pub low-coded : (unit bits : ℕ) → bits < 128 → Coded (byUnit unit 278 421) 7 bits
 low-coded unit = low-base (eqb unit 0)
@@ -140,11 +144,12 @@ low-coded unit = low-base (eqb unit 0)
 pub high-coded : (unit bits : ℕ) → bits < 512 → Coded (byUnit unit 3265 3406) 9 bits
 high-coded unit = high-base (eqb unit 0)
 
--- "d = high − low (never below 1713)", and the high point's largest count
-pub points-apart : (unit low high : ℕ) → (lowOf unit low + 1713 ≤ highOf unit high) × (highOf unit high ≤ 4426)
+-- "d = high − low (never below 1713)"
+pub points-apart : (unit low high : ℕ) → Apart (lowOf unit low) (highOf unit high)
+unfolding lowOf highOf
 points-apart unit = apart (eqb unit 0)
 
 -- d is 1713 at unit 1, low code 63, high code −255
 pub points-nearest : lowOf 1 0x3F + 1713 ≡ highOf 1 0x101
-unfolding pointOf twoPointCode
+unfolding lowOf highOf pointOf twoPointCode
 points-nearest = refl

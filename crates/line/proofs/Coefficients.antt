@@ -10,9 +10,9 @@ use Rattle.terms.proofs.Refusals.{refuse-none}
 use Rattle.terms.proofs.Check.{Check, at-most, also, rule}
 use Rattle.line.specs.declared.characterize.Source.{Source}
 use Rattle.line.specs.declared.characterize.Source.the-variants.{TwoPoint, Vref}
-use Rattle.line.specs.Code.{lowOf, highOf}
+use Rattle.line.specs.Code.{lowOf, highOf, Apart}
 use Rattle.line.specs.Characterize.{tpScale, tpOffset, vrefScale, vrefOffset, twoPointA, topOf, twoPointB, topRefusal}
-use Rattle.line.specs.Characterize.{coefficientsOf, sourceRefusal}
+use Rattle.line.specs.Characterize.{coefficientsOf, sourceRefusal, InBits}
 use Rattle.line.proofs.Codes.{points-apart}
 
 -- a unit's entries at the four attenuations are at most these
@@ -52,9 +52,9 @@ pub two-point-b-most : (t offset : ℕ) → offset ≤ 66 → twoPointB t offset
 unfolding twoPointB
 two-point-b-most t offset h = omega arith
 
-pub two-point-a-most : (scale low high : ℕ) → scale ≤ 224708 → low + 1713 ≤ high → high ≤ 4426 → twoPointA scale low high ≤ 131071
+pub two-point-a-most : (scale low high : ℕ) → scale ≤ 224708 → Apart low high → twoPointA scale low high ≤ 131071
 unfolding twoPointA
-two-point-a-most scale low high s d h = div-le-of-le-mul (high - low) (omega arith)
+two-point-a-most scale low high s d = div-le-of-le-mul (high - low) (omega arith)
 
 vref-a-most : (vref scale : ℕ) → vref ≤ 1205 → scale ≤ 197170 → vref * scale / 4096 ≤ 131071
 vref-a-most vref scale v s = div-le-of-le-mul 4096 (omega (arith, mul-le-mul v s))
@@ -65,9 +65,12 @@ pub line-ranges : (unit atten vref : ℕ) (source : Source) → unit ≤ 1 → a
 unfolding coefficientsOf
 line-ranges unit atten vref (TwoPoint low high) u a v =
     let most = tp-most unit atten u a in
-    let points = points-apart unit low high in
     let t : ℕ = topOf (lowOf unit low) (highOf unit high) in
-    (two-point-a-most _ _ _ (most .0) (points .0) (points .1), omega (arith, two-point-b-most t (tpOffset unit atten) (most .1)))
+    (two-point-a-most _ _ _ (most .0) (points-apart unit low high), omega (arith, two-point-b-most t (tpOffset unit atten) (most .1)))
 line-ranges unit atten vref Vref u a v =
     let most = vref-most unit atten u a in
     (vref-a-most vref _ v (most .0), omega arith)
+
+-- the codes of a source by two points
+pub in-bits : {source : Source} {low high : ℕ} → source ≡ TwoPoint low high → InBits source → (low < 128) × (high < 512)
+in-bits e h = rw e at h

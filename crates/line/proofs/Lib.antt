@@ -1,4 +1,5 @@
 pub mod Codes
 pub mod Coefficients
+pub mod Decoding
 pub mod Records
 pub mod Unique

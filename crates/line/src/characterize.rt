@@ -2,7 +2,8 @@
 use crate::code;
 use terms::refusal;
 ghost use mathlib.Core.Path.{_≡_};
-ghost use Prim.Native.Nat.{_+_, _≤_};
+ghost use Prim.Native.Nat.{_≤_};
+ghost use Rattle.line.specs.Code.{Apart};
 ghost use Rattle.line.specs.Characterize.{tpScale, tpOffset, vrefScale, vrefOffset, twoPointA, topOf, twoPointB, topRefusal, twoPointLine, vrefLine, coefficientsOf, sourceRefusal, InBits};
 
 const TP_LOW_VOLTAGE: u32 = 150;
@@ -74,7 +75,7 @@ fn vref_atten(unit: u8, atten: u8) -> Atten
 
 // Document 01's t.
 fn top(low: u32, high: u32) -> u32
-    requires { ⌜ (low + 1713 ≤ high) × (high ≤ 4426) ⌝ }
+    requires { ⌜ Apart low high ⌝ }
     ensures { λ r. ⌜ r ≡ topOf low high ⌝ }
 {
     let delta_x = high - low;
@@ -93,7 +94,7 @@ fn top_refusal(t: u32) -> u8
 }
 
 fn two_point_a(scale: u32, low: u32, high: u32) -> u32
-    requires { ⌜ (scale ≤ 224708) × (low + 1713 ≤ high) × (high ≤ 4426) ⌝ }
+    requires { ⌜ (scale ≤ 224708) × Apart low high ⌝ }
     ensures { λ r. ⌜ r ≡ twoPointA scale low high ⌝ }
 {
     let delta_x = high - low;
@@ -109,7 +110,7 @@ fn two_point_b(t: u32, offset: u32) -> u32
 }
 
 fn characterize_using_two_point(unit: u8, atten: u8, high: u32, low: u32) -> Coefficients
-    requires { ⌜ (unit ≤ 1) × (atten ≤ 3) × (low + 1713 ≤ high) × (high ≤ 4426) × (topRefusal (topOf low high) ≡ 0) ⌝ }
+    requires { ⌜ (unit ≤ 1) × (atten ≤ 3) × Apart low high × (topRefusal (topOf low high) ≡ 0) ⌝ }
     ensures { λ r. ⌜ r ≡ twoPointLine unit atten low high ⌝ }
 {
     let entry = tp_atten(unit, atten);

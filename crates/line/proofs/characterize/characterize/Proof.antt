@@ -1,44 +1,46 @@
+-- `line::characterize` meets its contract: in each arm the source is known, and a unit's points are far enough apart.
+-- Assumes nothing.
+use mathlib.Core.Path.{_≡_, sym, _∙_}
 use borrow.Author.Needs.{needs}
+use Rattle.line.specs.Characterize.{coefficientsOf, sourceRefusal, topRefusal, topOf}
+use Rattle.line.proofs.Codes.{points-apart}
+use Rattle.line.proofs.Coefficients.{in-bits}
 use Rattle.line.proofs.characterize.characterize.Statement.{statement}
 use Rattle.line.proofs.characterize.characterize.Tie as tie
-use Rattle.line.proofs.characterize.characterize.Reads as reads
-use Rattle.line.proofs.characterize.characterize.Lts as lts
-use Rattle.line.proofs.characterize.characterize_using_two_point.Reads as characterize-using-two-point-reads
-use Rattle.line.proofs.characterize.characterize_using_vref.Reads as characterize-using-vref-reads
-use Rattle.line.proofs.code.efuse_tp_high.Reads as efuse-tp-high-reads
-use Rattle.line.proofs.code.efuse_tp_low.Reads as efuse-tp-low-reads
 
--- src/characterize.rt:146:26
 enum-known-source : tie.Need-enum-known-source
 enum-known-source c = search needs
 
--- src/characterize.rt:147:55
 efuse-tp-high-requires : tie.Need-efuse-tp-high-requires
-efuse-tp-high-requires c κs = ?
+efuse-tp-high-requires c κs = in-bits (c .before .source .given .1) (c .before .before .before .pre .3) .1
 
--- src/characterize.rt:147:88
 efuse-tp-low-requires : tie.Need-efuse-tp-low-requires
-efuse-tp-low-requires c κs = ?
+efuse-tp-low-requires c κs = in-bits (c .before .before .source .given .1) (c .before .before .before .before .pre .3) .0
 
--- src/characterize.rt:147:13
 characterize-using-two-point-requires : tie.Need-characterize-using-two-point-requires
-characterize-using-two-point-requires c κs = ?
+unfolding sourceRefusal
+characterize-using-two-point-requires c κs =
+    let p = c .before .before .before in
+    let k = p .before .before .pre in
+    rw (c .efuse-tp-low .ensures, c .before .efuse-tp-high .ensures)
+    (k .0, k .1, points-apart _ _ _, rw (p .source .given .1) at (k .4))
 
--- src/characterize.rt:149:25
 enum-told : tie.Need-enum-told
 enum-told c = search needs
 
--- src/characterize.rt:149:25
 characterize-using-vref-requires : tie.Need-characterize-using-vref-requires
 characterize-using-vref-requires c κs = search needs
 
--- src/characterize.rt:141:1
 returns : tie.Need-returns
-returns c = ?
+unfolding coefficientsOf
+returns c =
+    let p = c .before .before in
+    c .characterize-using-two-point .ensures
+    ∙ rw (c .before .efuse-tp-low .ensures, p .efuse-tp-high .ensures, p .before .before .source .given .1)
 
--- src/characterize.rt:141:1
 returns-2 : tie.Need-returns-2
-returns-2 c = ?
+unfolding coefficientsOf
+returns-2 c = c .characterize-using-vref .ensures ∙ rw (c .before .enum-told .given .1)
 
 pub characterize-spec : {M : Type 1} → statement M
 characterize-spec =

@@ -1,44 +1,40 @@
+-- `line::source_refusal` meets its contract: in each arm the source is known, and a unit's points are far enough apart.
+-- Assumes nothing.
+use mathlib.Core.Path.{sym, _∙_}
 use borrow.Author.Needs.{needs}
+use Rattle.line.specs.Characterize.{sourceRefusal}
+use Rattle.line.proofs.Codes.{points-apart}
+use Rattle.line.proofs.Coefficients.{in-bits}
 use Rattle.line.proofs.characterize.source_refusal.Statement.{statement}
 use Rattle.line.proofs.characterize.source_refusal.Tie as tie
-use Rattle.line.proofs.characterize.source_refusal.Reads as reads
-use Rattle.line.proofs.characterize.source_refusal.Lts as lts
-use Rattle.line.proofs.characterize.top.Reads as top-reads
-use Rattle.line.proofs.characterize.top_refusal.Reads as top-refusal-reads
-use Rattle.line.proofs.code.efuse_tp_high.Reads as efuse-tp-high-reads
-use Rattle.line.proofs.code.efuse_tp_low.Reads as efuse-tp-low-reads
 
--- src/characterize.rt:133:26
 enum-known-source : tie.Need-enum-known-source
 enum-known-source c = search needs
 
--- src/characterize.rt:134:29
 efuse-tp-low-requires : tie.Need-efuse-tp-low-requires
-efuse-tp-low-requires c κs = ?
+efuse-tp-low-requires c κs = in-bits (c .before .source .given .1) (c .before .before .before .pre) .0
 
--- src/characterize.rt:134:60
 efuse-tp-high-requires : tie.Need-efuse-tp-high-requires
-efuse-tp-high-requires c κs = ?
+efuse-tp-high-requires c κs = in-bits (c .before .before .source .given .1) (c .before .before .before .before .pre) .1
 
--- src/characterize.rt:134:25
 top-requires : tie.Need-top-requires
-top-requires c κs = ?
+top-requires c κs = rw (c .before .efuse-tp-low .ensures, c .efuse-tp-high .ensures) (points-apart _ _ _)
 
--- src/characterize.rt:134:13
 top-refusal-requires : tie.Need-top-refusal-requires
 top-refusal-requires c κs = search needs
 
--- src/characterize.rt:136:25
 enum-told : tie.Need-enum-told
 enum-told c = search needs
 
--- src/characterize.rt:128:1
 returns : tie.Need-returns
-returns c = ?
+unfolding sourceRefusal
+returns c =
+    let p = c .before .before .before in
+    rw (c .top-refusal .ensures, c .before .top .ensures, p .efuse-tp-low .ensures, c .before .before .efuse-tp-high .ensures, p .before .before .source .given .1)
 
--- src/characterize.rt:128:1
 returns-2 : tie.Need-returns-2
-returns-2 c = ?
+unfolding sourceRefusal
+returns-2 c = rw (c .enum-told .given .1)
 
 pub source-refusal-spec : {M : Type 1} → statement M
 source-refusal-spec =

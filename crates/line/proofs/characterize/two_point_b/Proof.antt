@@ -1,20 +1,20 @@
+-- `line::two_point_b` meets its contract: what isn't refused is at most 850. Assumes nothing.
+use mathlib.Core.Path.{refl}
 use borrow.Author.Needs.{needs}
+use Rattle.line.specs.Characterize.{twoPointB}
+use Rattle.line.proofs.Coefficients.{top-within}
 use Rattle.line.proofs.characterize.two_point_b.Statement.{statement}
 use Rattle.line.proofs.characterize.two_point_b.Tie as tie
-use Rattle.line.proofs.characterize.two_point_b.Reads as reads
-use Rattle.line.proofs.characterize.two_point_b.Lts as lts
 
--- src/characterize.rt:98:5
 sub-result : tie.Need-sub-result
-sub-result c = ?
+sub-result c = top-within _ (c .pre .0)
 
--- src/characterize.rt:98:5
 add-result : tie.Need-add-result
 add-result c = search needs
 
--- src/characterize.rt:94:1
 returns : tie.Need-returns
-returns c = ?
+unfolding twoPointB
+returns c = refl
 
 pub two-point-b-spec : {M : Type 1} → statement M
 two-point-b-spec = tie.close (tie.spec sub-result add-result returns)

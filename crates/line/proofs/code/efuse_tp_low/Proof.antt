@@ -1,7 +1,7 @@
 -- `line::efuse_tp_low` meets its contract: either unit's base has room for the lowest code. Assumes nothing.
 use mathlib.Core.Path.{_∙_}
 use borrow.Author.Needs.{needs}
-use Rattle.line.specs.Code.{pointOf}
+use Rattle.line.specs.Code.{lowOf}
 use Rattle.line.proofs.Codes.{low-coded}
 use Rattle.line.proofs.code.efuse_tp_low.Statement.{statement}
 use Rattle.line.proofs.code.efuse_tp_low.Tie as tie
@@ -13,6 +13,7 @@ efuse-tp-requires : tie.Need-efuse-tp-requires
 efuse-tp-requires c κs = rw (c .by-unit .ensures) (low-coded (c .before .args .unit) _ (c .before .pre))
 
 returns : tie.Need-returns
+unfolding lowOf
 returns c = c .efuse-tp .ensures ∙ rw (c .before .by-unit .ensures)
 
 pub efuse-tp-low-spec : {M : Type 1} → statement M
