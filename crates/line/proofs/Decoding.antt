@@ -54,6 +54,19 @@ module _ {words : ℕ → ℕ} {dump map : List ℕ} (m : Mapped words dump map)
   high-fits true = mapped-fits words map Esp32 (m .passed) 4 (lit≤ tt) dump 32
   high-fits false = mapped-fits words map Esp32 (m .passed) 5 (lit≤ tt) dump 32
 
+-- the ids of a unit's codes are a map's
+low-id : (adc1 : Bool) → (1 ≤ cond adc1 3 4) × (cond adc1 3 4 ≤ 6)
+low-id true = (lit≤ tt, lit≤ tt)
+low-id false = (lit≤ tt, lit≤ tt)
+
+high-id : (adc1 : Bool) → (1 ≤ cond adc1 5 6) × (cond adc1 5 6 ≤ 6)
+high-id true = (lit≤ tt, lit≤ tt)
+high-id false = (lit≤ tt, lit≤ tt)
+
+pub unit-ids : (unit : ℕ)
+    → ((1 ≤ byUnit unit 3 4) × (byUnit unit 3 4 ≤ 6)) × ((1 ≤ byUnit unit 5 6) × (byUnit unit 5 6 ≤ 6))
+unit-ids unit = (low-id (eqb unit 0), high-id (eqb unit 0))
+
 -- which source it is
 module _ (dump map : List ℕ) (unit : ℕ) where
   pub source-two-point : twoPointUsed dump map ≡ true
@@ -69,9 +82,9 @@ module _ (dump map : List ℕ) (unit : ℕ) where
   unfolding sourceOf
   source-in-bits m = by (twoPointUsed dump map)
     where
-    by : (t : Bool) → InBits (cond t (TwoPoint (rawOf dump map (byUnit unit 3 4)) (rawOf dump map (byUnit unit 5 6))) Vref)
-    by true = (low-fits m (eqb unit 0), high-fits m (eqb unit 0))
-    by false = tt
+      by : (t : Bool) → InBits (cond t (TwoPoint (rawOf dump map (byUnit unit 3 4)) (rawOf dump map (byUnit unit 5 6))) Vref)
+      by true = (low-fits m (eqb unit 0), high-fits m (eqb unit 0))
+      by false = tt
 
 module _ (words : ℕ → ℕ) (dump map : List ℕ) (unit atten : ℕ) where
   abbrev input : ℕ
@@ -127,9 +140,15 @@ module _ (words : ℕ → ℕ) (dump map : List ℕ) (unit atten : ℕ) where
   unfolding decodeRefusal
   decode-input e h = rw (← e) (sym (orElse-some _ _ h))
 
-  pub decode-source : input ≡ 0 → sourceRefusal unit (sourceOf dump map unit) ≡ decoding
+  pub decode-source : input ≡ 0 → {source : Source} → source ≡ sourceOf dump map unit
+      → {n : ℕ} → n ≡ sourceRefusal unit source → n ≡ decoding
   unfolding decodeRefusal
-  decode-source e = rw e
+  decode-source e s h = h ∙ rw (s, e)
+
+  -- what is known where nothing is refused
+  pub decode-good : decoding ≡ 0 → Accepted × (sourceRefusal unit (sourceOf dump map unit) ≡ 0)
+  unfolding decodeRefusal
+  decode-good e = let p = orElse-none input _ e in (input-good (p .0), p .1)
 
   -- which case a decoding is, as a `return` asks it
   pub decode-refused : {n : ℕ} → n ≡ decoding → (n ≡ 0 → ⊥) → Refused (record { number = n }) ≡ decodeOf words dump map unit atten
@@ -143,9 +162,9 @@ module _ (words : ℕ → ℕ) (dump map : List ℕ) (unit atten : ℕ) where
 
   -- what is decoded passes the record check
   pub decoded-passes : decoding ≡ 0 → recordRefusal (decodedRecord dump map unit atten) ≡ 0
-  unfolding decodeRefusal decodedRecord foundOf
+  unfolding decodedRecord foundOf
   decoded-passes e =
-      let k = input-good (orElse-none input _ e .0) in
+      let k = decode-good e .0 in
       let vref = vref-range (rawOf dump map 1) (vref-fits (k .mapped)) in
       let line = line-ranges unit atten (vrefOf (rawOf dump map 1)) (sourceOf dump map unit) (k .units) (k .attens) (vref .1) in
       record-good _
@@ -183,9 +202,11 @@ module _ (words : ℕ → ℕ) (dump map : List ℕ) (unit atten : ℕ) where
       (λ u. either atten 3 (λ a. absurd (h u a)) (λ a. sym (decode-input (input-atten d u a) (λ e. omega arith))))
       (λ u. sym (decode-input (input-unit d u) (λ e. omega arith)))
   given (no-map d u a e l m) = sym (decode-input (sym e ∙ input-map d u a) (λ z. omega arith))
-  given (underflow k t h) = sym (decode-source (input-accepts k)) ∙ source-underflow t h
+  given (underflow k t h) = sym (decode-source (input-accepts k) refl (sym (source-underflow t h)))
   given (none k h) =
-      sym (decode-source (input-accepts k)) ∙ by-case (twoPointUsed dump map) (λ t. source-good t (h t)) (λ t. source-never t)
+      by-case (twoPointUsed dump map)
+      (λ t. sym (decode-source (input-accepts k) refl (sym (source-good t (h t)))))
+      (λ t. sym (decode-source (input-accepts k) refl (sym (source-never t))))
 
   told : {n : ℕ} → Why n → Why decoding
   told w = rw (given w) w

@@ -36,17 +36,41 @@ fn tp_atten(unit: u8, atten: u8) -> Atten
 {
     if unit == 0 {
         match atten {
-            0 => Atten { scale: 65504, offset: 0 },
-            1 => Atten { scale: 86975, offset: 1 },
-            2 => Atten { scale: 120389, offset: 27 },
-            _ => Atten { scale: 224310, offset: 54 },
+            0 => Atten {
+                scale: 65504,
+                offset: 0,
+            },
+            1 => Atten {
+                scale: 86975,
+                offset: 1,
+            },
+            2 => Atten {
+                scale: 120389,
+                offset: 27,
+            },
+            _ => Atten {
+                scale: 224310,
+                offset: 54,
+            },
         }
     } else {
         match atten {
-            0 => Atten { scale: 65467, offset: 0 },
-            1 => Atten { scale: 86861, offset: 9 },
-            2 => Atten { scale: 120416, offset: 26 },
-            _ => Atten { scale: 224708, offset: 66 },
+            0 => Atten {
+                scale: 65467,
+                offset: 0,
+            },
+            1 => Atten {
+                scale: 86861,
+                offset: 9,
+            },
+            2 => Atten {
+                scale: 120416,
+                offset: 26,
+            },
+            _ => Atten {
+                scale: 224708,
+                offset: 66,
+            },
         }
     }
 }
@@ -58,17 +82,41 @@ fn vref_atten(unit: u8, atten: u8) -> Atten
 {
     if unit == 0 {
         match atten {
-            0 => Atten { scale: 57431, offset: 75 },
-            1 => Atten { scale: 76236, offset: 78 },
-            2 => Atten { scale: 105481, offset: 107 },
-            _ => Atten { scale: 196602, offset: 142 },
+            0 => Atten {
+                scale: 57431,
+                offset: 75,
+            },
+            1 => Atten {
+                scale: 76236,
+                offset: 78,
+            },
+            2 => Atten {
+                scale: 105481,
+                offset: 107,
+            },
+            _ => Atten {
+                scale: 196602,
+                offset: 142,
+            },
         }
     } else {
         match atten {
-            0 => Atten { scale: 57236, offset: 63 },
-            1 => Atten { scale: 76175, offset: 66 },
-            2 => Atten { scale: 105678, offset: 89 },
-            _ => Atten { scale: 197170, offset: 128 },
+            0 => Atten {
+                scale: 57236,
+                offset: 63,
+            },
+            1 => Atten {
+                scale: 76175,
+                offset: 66,
+            },
+            2 => Atten {
+                scale: 105678,
+                offset: 89,
+            },
+            _ => Atten {
+                scale: 197170,
+                offset: 128,
+            },
         }
     }
 }
@@ -142,7 +190,10 @@ pub(crate) fn source_refusal(unit: u8, source: Source) -> u8
 {
     match source {
         Source::TwoPoint(low, high) => {
-            top_refusal(top(code::efuse_tp_low(unit, low), code::efuse_tp_high(unit, high)))
+            top_refusal(top(
+                code::efuse_tp_low(unit, low),
+                code::efuse_tp_high(unit, high),
+            ))
         }
         Source::Vref => refusal::NONE,
     }
@@ -155,7 +206,12 @@ pub(crate) fn characterize(unit: u8, atten: u8, vref: u32, source: Source) -> Co
 {
     match source {
         Source::TwoPoint(low, high) => {
-            characterize_using_two_point(unit, atten, code::efuse_tp_high(unit, high), code::efuse_tp_low(unit, low))
+            characterize_using_two_point(
+                unit,
+                atten,
+                code::efuse_tp_high(unit, high),
+                code::efuse_tp_low(unit, low),
+            )
         }
         Source::Vref => characterize_using_vref(unit, atten, vref),
     }

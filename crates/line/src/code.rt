@@ -69,7 +69,11 @@ pub(crate) fn efuse_tp_low(unit: u8, bits: u32) -> u32
     requires { ⌜ bits < 128 ⌝ }
     ensures { λ r. ⌜ r ≡ lowOf unit bits ⌝ }
 {
-    efuse_tp(by_unit(unit, TP_LOW1_OFFSET, TP_LOW2_OFFSET), TP_LOW_WIDTH, bits)
+    efuse_tp(
+        by_unit(unit, TP_LOW1_OFFSET, TP_LOW2_OFFSET),
+        TP_LOW_WIDTH,
+        bits,
+    )
 }
 
 // The count at 850 mV, from its nine bits.
@@ -77,5 +81,9 @@ pub(crate) fn efuse_tp_high(unit: u8, bits: u32) -> u32
     requires { ⌜ bits < 512 ⌝ }
     ensures { λ r. ⌜ r ≡ highOf unit bits ⌝ }
 {
-    efuse_tp(by_unit(unit, TP_HIGH1_OFFSET, TP_HIGH2_OFFSET), TP_HIGH_WIDTH, bits)
+    efuse_tp(
+        by_unit(unit, TP_HIGH1_OFFSET, TP_HIGH2_OFFSET),
+        TP_HIGH_WIDTH,
+        bits,
+    )
 }

@@ -13,10 +13,9 @@ use terms::refusal;
 use terms::refusal::Outcome;
 use terms::refusal::Refusal;
 ghost use mathlib.Core.Path.{_≡_};
-ghost use Prim.Native.Nat.{_≤_};
+ghost use Prim.Native.Nat.{_≤_, _<_};
 ghost use Rattle.efuse.specs.Field.{eight};
-ghost use Rattle.line.specs.Characterize.{sourceRefusal};
-ghost use Rattle.line.specs.Decode.{Mapped, rawOf, twoPointUsed, sourceOf, foundOf, recordFrom, inputRefusal, decodeOf};
+ghost use Rattle.line.specs.Decode.{Mapped, rawOf, twoPointUsed, sourceOf, foundOf, recordFrom, inputRefusal, decodeRefusal, decodeOf};
 
 const DUMP_WORDS: usize = 88;
 
@@ -115,10 +114,9 @@ fn source(dump: &[u32], map: &[u8], unit: u8) -> Source
     Source::Vref
 }
 
-// What the record of a unit at an attenuation is made from, where its source isn't refused.
+// What the record of a unit at an attenuation is made from, where nothing is refused.
 fn find(dump: &[u32], map: &[u8], unit: u8, atten: u8, source: Source) -> Found
-    requires { ⌜ inputRefusal eight (now dump) (now map) unit atten ≡ 0 ⌝ }
-    requires { ⌜ (source ≡ sourceOf (now dump) (now map) unit) × (sourceRefusal unit source ≡ 0) ⌝ }
+    requires { ⌜ (decodeRefusal eight (now dump) (now map) unit atten ≡ 0) × (source ≡ sourceOf (now dump) (now map) unit) ⌝ }
     ensures { λ r. ⌜ r ≡ foundOf (now (dump .entry)) (now (map .entry)) unit atten ⌝ }
 {
     let vref = raw(dump, map, ADC_VREF);
@@ -128,7 +126,7 @@ fn find(dump: &[u32], map: &[u8], unit: u8, atten: u8, source: Source) -> Found
 
 // The record that is made from it.
 fn record_from(found: Found, unit: u8, atten: u8) -> LineRecord
-    requires { ⌜ found .vref ≤ 31 ⌝ }
+    requires { ⌜ found .vref < 32 ⌝ }
     ensures { λ r. ⌜ r ≡ recordFrom found unit atten ⌝ }
 {
     let line = found.line;

@@ -1,41 +1,42 @@
+-- `line::input_refusal` meets its contract: at each `return` the tests that led there say which case of the definition holds.
+-- Assumes nothing.
+use mathlib.Core.Path.{sym, _∙_, ap}
 use borrow.Author.Needs.{needs}
+use Rattle.terms.specs.Refuse.{numberOf}
+use Rattle.terms.proofs.Refusals.{outcome-number}
+use Rattle.line.proofs.Decoding.{input-dump, input-unit, input-atten, input-map}
 use Rattle.line.proofs.decode.input_refusal.Statement.{statement}
 use Rattle.line.proofs.decode.input_refusal.Tie as tie
-use Rattle.line.proofs.decode.input_refusal.Reads as reads
-use Rattle.line.proofs.decode.input_refusal.Lts as lts
-use Rattle.efuse.proofs.map.check_map.Reads as check-map-reads
 
--- src/decode.rt:58:9
 returns : tie.Need-returns
-returns c = ?
+returns c = input-dump _ _ _ _ _ (c .if1 .taken)
 
--- src/decode.rt:61:9
 returns-2 : tie.Need-returns-2
-returns-2 c = ?
+returns-2 c = input-unit _ _ _ _ _ (c .before .if1 .left) (c .if2 .taken)
 
--- src/decode.rt:64:9
 returns-3 : tie.Need-returns-3
-returns-3 c = ?
+returns-3 c = input-atten _ _ _ _ _ (c .before .before .if1 .left) (c .before .if2 .left) (c .if3 .taken)
 
--- src/decode.rt:66:9
 check-map-requires : tie.Need-check-map-requires
 check-map-requires c κs = search needs
 
--- src/decode.rt:67:26
 enum-known-checked : tie.Need-enum-known-checked
 enum-known-checked c = search needs
 
--- src/decode.rt:68:9
 enum-told : tie.Need-enum-told
 enum-told c = search needs
 
--- src/decode.rt:68:9
 returns-4 : tie.Need-returns-4
-returns-4 c = ?
+returns-4 c =
+    let p = c .before .before in
+    ap numberOf (sym (c .enum-told .given .1) ∙ p .check-map .ensures) ∙ outcome-number _
+    ∙ input-map _ _ _ _ _ (p .before .before .before .if1 .left) (p .before .before .if2 .left) (p .before .if3 .left)
 
--- src/decode.rt:54:1
 returns-5 : tie.Need-returns-5
-returns-5 c = ?
+returns-5 c =
+    let p = c .before .before .before in
+    ap numberOf (sym (c .before .checked .given .1) ∙ p .check-map .ensures) ∙ outcome-number _
+    ∙ input-map _ _ _ _ _ (p .before .before .before .if1 .left) (p .before .before .if2 .left) (p .before .if3 .left)
 
 pub input-refusal-spec : {M : Type 1} → statement M
 input-refusal-spec =

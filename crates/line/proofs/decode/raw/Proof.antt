@@ -1,42 +1,46 @@
+-- `line::raw` meets its contract: a field of a map that passed is read. Assumes nothing.
+use mathlib.Core.Path.{_∙_, ap}
+use native.Mathlib.Omega.{arith}
 use borrow.Author.Needs.{needs}
+use Rattle.efuse.specs.Field.{eight, readOf}
+use Rattle.efuse.proofs.Mapped.{mapped-value, mapped-never}
 use Rattle.line.proofs.decode.raw.Statement.{statement}
 use Rattle.line.proofs.decode.raw.Tie as tie
-use Rattle.line.proofs.decode.raw.Reads as reads
-use Rattle.line.proofs.decode.raw.Lts as lts
-use Rattle.efuse.proofs.field.read_field_u32.Reads as read-field-u32-reads
-use Rattle.efuse.proofs.map.field_at.Reads as field-at-reads
 
--- src/decode.rt:78:64
 sub-field-at : tie.Need-sub-field-at
 sub-field-at c = search needs
 
--- src/decode.rt:78:63
 cast-field-at : tie.Need-cast-field-at
 cast-field-at c = search needs
 
--- src/decode.rt:78:44
 field-at-requires : tie.Need-field-at-requires
 field-at-requires c κs = search needs
 
--- src/decode.rt:78:9
 read-field-u32-requires : tie.Need-read-field-u32-requires
 read-field-u32-requires c κs = search needs
 
--- src/decode.rt:79:21
 enum-known-read : tie.Need-enum-known-read
 enum-known-read c = search needs
 
--- src/decode.rt:80:9
 enum-told : tie.Need-enum-told
 enum-told c = search needs
 
--- src/decode.rt:80:9
 returns : tie.Need-returns
-returns c = ?
+returns c =
+    let p = c .before .before in
+    let k = p .before .before .before .before .pre .0 in
+    absurd
+    (mapped-never _ _ _ (k .passed) _ (omega arith) _ _ (k .whole)
+    (p .read-field-u32 .ensures ∙ ap (readOf 32 eight _) (p .before .field-at .ensures))
+    (c .enum-told .given .1))
 
--- src/decode.rt:74:1
 returns-2 : tie.Need-returns-2
-returns-2 c = ?
+returns-2 c =
+    let p = c .before .before .before in
+    let k = p .before .before .before .before .pre .0 in
+    mapped-value _ _ _ (k .passed) _ (omega arith) _ _ (k .whole)
+    (p .read-field-u32 .ensures ∙ ap (readOf 32 eight _) (p .before .field-at .ensures))
+    (c .before .read .given .1)
 
 pub raw-spec : {M : Type 1} → statement M
 raw-spec =
