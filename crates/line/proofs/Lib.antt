@@ -1,5 +1,8 @@
 pub mod Answers
+pub mod Codes
+pub mod Coefficients
 pub mod Conversions
+pub mod Decoding
 pub mod Points
 pub mod Records
 pub mod Sums
