@@ -15,7 +15,7 @@ use terms::refusal::Refusal;
 ghost use mathlib.Core.Path.{_≡_};
 ghost use Prim.Native.Nat.{_≤_, _<_};
 ghost use Rattle.efuse.specs.Field.{eight};
-ghost use Rattle.line.specs.Decode.{Mapped, rawOf, twoPointUsed, sourceOf, foundOf, recordFrom, inputRefusal, decodeRefusal, decodeOf};
+ghost use Rattle.line.specs.Decode.{Mapped, rawOf, twoPointUsed, sourceOf, foundOf, recordFrom, inputRefusal, decodeRefusal, numberOf, decodeOf};
 
 const DUMP_WORDS: usize = 88;
 
@@ -148,4 +148,14 @@ pub fn decode(dump: &[u32], map: &[u8], unit: u8, atten: u8) -> Decoded
         return Decoded::Refused(Refusal { number });
     }
     Decoded::Record(record_from(find(dump, map, unit, atten, source), unit, atten))
+}
+
+// Document 01's number of a decoding: 0 where there is a record.
+pub fn number_of(decoded: Decoded) -> u8
+    ensures { λ r. ⌜ r ≡ numberOf decoded ⌝ }
+{
+    match decoded {
+        Decoded::Record(_) => refusal::NONE,
+        Decoded::Refused(why) => why.number,
+    }
 }
