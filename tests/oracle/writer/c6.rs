@@ -146,10 +146,22 @@ impl Asked {
     }
 }
 
-/// A dump, a map and 128 cases, each with a record of the map replaced.
+/// The map that every case starts from: a good one.
+fn map() -> Vec<u8> {
+    any_map(&mut Noise::new(10), MapChip::C6)
+}
+
+pub fn map_list() -> List {
+    let mut list = List::new("esp32c6_cases", "map", 120);
+    list.put(&map());
+    list
+}
+
+/// A dump and 128 cases, each with a record of the map replaced.
 pub fn calls() -> List {
     const CASES: usize = 128;
-    let mut list = List::new("esp32c6_cases", "calls", 352 + 120 + 24 * CASES);
+    let mut list = List::new("esp32c6_cases", "calls", 352 + 24 * CASES);
+    let map = map();
     let noise = &mut Noise::new(9);
     let mut cases = cal_cases(noise);
     cases.extend(init_cases(noise));
@@ -161,9 +173,8 @@ pub fn calls() -> List {
     }
     for (g, group) in cases.chunks(CASES).enumerate() {
         let mut dump = Builder::new(noise_dump(noise));
-        let map = any_map(noise, MapChip::C6);
         let places: Vec<_> = group.iter().map(|case| dump.holding(noise, case.code, case.count)).collect();
-        list.words(&dump.dump).put(&map);
+        list.words(&dump.dump);
         for (i, (case, field)) in group.iter().zip(places).enumerate() {
             let place = case.reads();
             let id = 9 + place;

@@ -22,6 +22,7 @@ fn main() {
         line::fill(),
         line::stretches(),
         s2::calls(),
+        c6::map_list(),
         c6::calls(),
         curve::tables(),
         curve::single(),
