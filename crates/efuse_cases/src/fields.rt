@@ -17,11 +17,11 @@ fn field_of(case: &[u8]) -> EfuseField {
     }
 }
 
-// Whether a reading has that number, and that value where it is good.
+// Whether a reading has that number and that value; a refusal's value counts as 0.
 fn same_read(got: Read, number: u8, value: u32) -> bool {
     match got {
         Read::Value(v) => number == refusal::NONE && v == value,
-        Read::Refused(refused) => refused.number == number,
+        Read::Refused(refused) => refused.number == number && value == 0,
     }
 }
 
