@@ -1,6 +1,9 @@
 pub mod Answers
 pub mod Conversions
+pub mod Fills
 pub mod Points
+pub mod Ramps
 pub mod Records
+pub mod Segments
 pub mod Sums
 pub mod Unique

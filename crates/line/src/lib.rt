@@ -1,4 +1,5 @@
 // ESP32 line calibration: the line record, and what it is decoded from and converts.
 pub mod convert;
+pub mod fill;
 pub mod lookup;
 pub mod record;
