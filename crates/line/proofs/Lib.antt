@@ -4,6 +4,8 @@ pub mod Fills
 pub mod Points
 pub mod Ramps
 pub mod Records
+pub mod Rising
 pub mod Segments
+pub mod Stretches
 pub mod Sums
 pub mod Unique
