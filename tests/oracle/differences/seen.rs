@@ -4,12 +4,13 @@ use oracle::fields::{self, Field};
 use oracle::line::{self, Record};
 use oracle::plain::dump_and_map;
 use oracle::rules::MapChip;
-use oracle::{c6, s2};
+use oracle::{c6, document, s2};
 
 pub fn all() {
     fields();
     line();
     two_point();
+    underflows();
     s2_units();
     c6_init();
     curve_inputs();
@@ -69,6 +70,27 @@ fn two_point() {
     println!("two-point: unit 0, low code 63, high code 0x1BC, 0 dB: {:?}", decode(0x1BC, 0));
     if let Ok(record) = decode(0x1BC, 0) {
         println!("two-point: that record at raw 0: {:?}", line::convert(record, 0));
+    }
+}
+
+/// What a build without overflow checks makes of the pairs that are refused with 9.
+fn underflows() {
+    for atten in 0..4 {
+        let (mut pairs, mut decoded, mut small) = (0, 0, 0);
+        for (unit, low, high) in (0..2 * 128 * 512).map(|n| (n / 65536, n / 512 % 128, n % 512)) {
+            if low == 0 || high == 0 || document::two_point(unit as usize, 0, low, high).is_some() {
+                continue;
+            }
+            let (dump, map) = dump_and_map(MapChip::Esp32, &[0, 1, low, low, high, high]);
+            pairs += 1;
+            if let Ok(record) = line::decode(&dump, &map, unit as u8, atten) {
+                decoded += 1;
+                small += u32::from(record.coeff_b <= 4095);
+            }
+        }
+        println!(
+            "two-point: attenuation {atten}: t above 850 for {pairs} pairs, decoded {decoded}, b at most 4095 for {small}"
+        );
     }
 }
 
