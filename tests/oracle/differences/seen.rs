@@ -20,12 +20,12 @@ pub fn all() {
 
 fn fields() {
     let mut dump = [0; 88];
-    dump[8] = 1;
+    (dump[0], dump[8]) = (5, 1);
     let read = |block, bit_start, bit_count| fields::read_u32(&dump, Field { block, bit_start, bit_count });
     println!("field: block 11: {:?}", read(11, 0, 1));
     println!("field: block 0, start 255, count 2, where block 1 begins with a 1: {:?}", read(0, 255, 2));
     println!("field: block 0, start 256, count 1: {:?}", read(0, 256, 1));
-    println!("field: block 0, start 0, count 257: {:?}", read(0, 0, 257));
+    println!("field: block 0, which begins with a 5, start 0, count 257: {:?}", read(0, 0, 257));
     println!("field: block 10, start 256, count 0, which reads a word behind the dump: {:?}", read(10, 256, 0));
 }
 
@@ -52,8 +52,8 @@ fn line() {
     );
     let by_a = |coeff_a| line::convert(Record { coeff_a, ..plain }, 4095);
     println!("line: at raw 4095, first a that panics: {}", first_panic(131072..=2_000_000, by_a));
-    let cut = (4096..=65536 * 2)
-        .find(|b| line::convert(Record { coeff_a: 0, coeff_b: *b, ..plain }, 0) != Ok(*b as u16) || *b > 65535);
+    let loses = |b: &u32| line::convert(Record { coeff_a: 0, coeff_b: *b, ..plain }, 0).map(u32::from) != Ok(*b);
+    let cut = (4096..=200_000).find(loses);
     println!("line: at raw 0 and a 0, first b whose millivolts lose a bit: {cut:?}");
     let by_vref = |vref| line::convert(Record { vref, ..CASE_3 }, 4095);
     println!("line: case 3's record with vref 994, raw 4095: {:?}; vref 1206: {:?}", by_vref(994), by_vref(1206));
