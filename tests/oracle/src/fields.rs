@@ -81,9 +81,5 @@ pub fn read_bytes(dump: &Dump, field: Field, n: usize) -> Result<Vec<u8>, Panic>
 /// The field of a map's record k.
 pub fn field_of(map: &[u8], k: usize) -> Field {
     let record = &map[rules::RECORD * k..];
-    Field {
-        block: record[1],
-        bit_start: u16::from_le_bytes([record[2], record[3]]),
-        bit_count: record[4].into(),
-    }
+    Field { block: record[1], bit_start: u16::from_le_bytes([record[2], record[3]]), bit_count: record[4].into() }
 }

@@ -1,8 +1,8 @@
 //! Document 01's refusals, written down a second time, away from the proved library: each rule gives its number.
-use crate::Dump;
 use crate::curve::Chip;
 use crate::fields::{Field, field_of, read_u32};
 use crate::line::Record;
+use crate::{Dump, document};
 
 /// A value, or the number that document 01 gives where a call is turned down.
 pub type Answer<T> = Result<T, u8>;
@@ -80,21 +80,12 @@ pub fn raw(raw: u16) -> Answer<()> {
     refuse(raw > 4095, 8)
 }
 
-/// A two-point code: with the sign bit set the value is minus ((0 - bits, wrapping) mod 64, or mod 256).
-fn two_point_code(bits: u32, half: u32) -> i32 {
-    if bits >= half { -((0u32.wrapping_sub(bits) % half) as i32) } else { bits as i32 }
-}
-
 /// 9: two-point is used, and t > 850. The map is a good one.
 pub fn underflow(dump: &Dump, map: &[u8], unit: u8) -> Answer<()> {
     let bits = |id: usize| read_u32(dump, field_of(map, id - 1)).expect("a good map's field is read");
     let two_point = bits(2) == 1 && (3..=6).all(|id| bits(id) != 0);
     let unit = usize::from(unit);
-    let low = [278, 421][unit] + 4 * two_point_code(bits(3 + unit), 64);
-    let high = [3265, 3406][unit] + 4 * two_point_code(bits(5 + unit), 256);
-    let d = high - low;
-    let t = (700 * high + d / 2) / d;
-    refuse(two_point && t > 850, 9)
+    refuse(two_point && document::two_point(unit, 0, bits(3 + unit), bits(5 + unit)).is_none(), 9)
 }
 
 /// 10: line record outside its ranges.

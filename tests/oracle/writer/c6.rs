@@ -1,11 +1,12 @@
 //! The C6: every 10-bit calibration code, init codes of every width, channel codes, every channel and every minor version.
 use oracle::answers;
+use oracle::noise::Noise;
+use oracle::plain::record;
 use oracle::rules::{Answer, MapChip, RECORD};
 
-use crate::dumps::{Builder, any_words, lent, noise_dump};
+use crate::dumps::{Builder, any_words, lent};
 use crate::list::{List, number};
-use crate::maps::{any_map, of_length, record, spoil};
-use crate::noise::Noise;
+use crate::maps::{any_map, of_length, spoil};
 
 const VERSION: u8 = 0;
 const INIT_CODE: u8 = 1;
@@ -168,11 +169,11 @@ pub fn calls() -> List {
     cases.extend(channel_cases(noise));
     cases.extend(version_cases());
     let faultless = cases.len();
-    while cases.len() < faultless + 200 || cases.len() % CASES != 0 {
+    while cases.len() < faultless + 200 || !cases.len().is_multiple_of(CASES) {
         cases.push(noise.pick(&cases[..faultless]));
     }
     for (g, group) in cases.chunks(CASES).enumerate() {
-        let mut dump = Builder::new(noise_dump(noise));
+        let mut dump = Builder::new(noise.dump());
         let places: Vec<_> = group.iter().map(|case| dump.holding(noise, case.code, case.count)).collect();
         list.words(&dump.dump);
         for (i, (case, field)) in group.iter().zip(places).enumerate() {

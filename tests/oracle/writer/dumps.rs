@@ -1,18 +1,13 @@
 //! Dumps of zeros, ones and noise, and dumps that hold wanted values at places that a map then names.
 use oracle::Dump;
 use oracle::fields::Field;
-
-use crate::noise::Noise;
+use oracle::noise::Noise;
 
 pub const ZEROS: Dump = [0; 88];
 pub const ONES: Dump = [u32::MAX; 88];
 
 /// Words that a case may lend: the dump's, and zeros behind them.
 pub const MOST_WORDS: u8 = 96;
-
-pub fn noise_dump(noise: &mut Noise) -> Dump {
-    std::array::from_fn(|_| noise.next() as u32)
-}
 
 /// The first n of a dump's words and the zeros behind them.
 pub fn lent(dump: &Dump, n: u8) -> Vec<u32> {
@@ -78,11 +73,7 @@ impl Builder {
 
 /// A place for that many bits inside some block.
 pub fn any_place(noise: &mut Noise, count: u32) -> Field {
-    Field {
-        block: noise.below(11) as u8,
-        bit_start: noise.within(0, 256 - count) as u16,
-        bit_count: count as u16,
-    }
+    Field { block: noise.below(11) as u8, bit_start: noise.within(0, 256 - count) as u16, bit_count: count as u16 }
 }
 
 /// All places of that size, from the given one on and around.

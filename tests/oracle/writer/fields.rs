@@ -1,10 +1,10 @@
 //! Field reading: every class of start and count on dumps of zeros, ones and noise.
 use oracle::answers;
 use oracle::fields::{Field, MOST_BYTES};
+use oracle::noise::Noise;
 
-use crate::dumps::{ONES, ZEROS, any_words, lent, noise_dump};
+use crate::dumps::{ONES, ZEROS, any_words, lent};
 use crate::list::{List, number};
-use crate::noise::Noise;
 
 /// Starts and counts at and beside the edges of bytes, words and the block, each start with each count.
 fn classes() -> Vec<(u16, u16)> {
@@ -38,7 +38,7 @@ pub fn fields() -> List {
         let dump = match group {
             0 => ZEROS,
             1 => ONES,
-            _ => noise_dump(noise),
+            _ => noise.dump(),
         };
         list.words(&dump);
         for _ in 0..CASES {
@@ -67,7 +67,7 @@ pub fn bytes() -> List {
     let noise = &mut Noise::new(2);
     let classes = classes();
     for group in 0..14 {
-        let dump = if group == 0 { ONES } else { noise_dump(noise) };
+        let dump = if group == 0 { ONES } else { noise.dump() };
         list.words(&dump);
         for case in 0..CASES {
             let (bit_start, bit_count) = if case % 2 == 0 { noise.pick(&classes) } else { any_class(noise) };

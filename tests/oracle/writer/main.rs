@@ -1,13 +1,13 @@
 //! Writes the lists that the gate's programs replay. `lists ROOT` writes crates/*_cases/data below ROOT; the formats are in
 //! tests/oracle/README.md. The same bytes come out each time.
 mod c6;
+mod convert;
 mod curve;
+mod decode;
 mod dumps;
 mod fields;
-mod line;
 mod list;
 mod maps;
-mod noise;
 mod s2;
 
 fn main() {
@@ -17,10 +17,10 @@ fn main() {
         fields::fields(),
         fields::bytes(),
         maps::maps(),
-        line::decode(),
-        line::convert(),
-        line::fill(),
-        line::stretches(),
+        decode::decode(),
+        convert::convert(),
+        convert::fill(),
+        convert::stretches(),
         s2::calls(),
         c6::map_list(),
         c6::calls(),

@@ -1,16 +1,10 @@
 //! Field maps, good ones and ones with a fault; and the list of them, which document 01's rules alone answer.
-use oracle::fields::Field;
+use oracle::noise::Noise;
+use oracle::plain::record;
 use oracle::rules::{self, MapChip, RECORD};
 
 use crate::dumps::any_place;
 use crate::list::{List, number};
-use crate::noise::Noise;
-
-/// A map's record.
-pub fn record(id: u8, field: Field) -> [u8; RECORD] {
-    let [low, high] = field.bit_start.to_le_bytes();
-    [id, field.block, low, high, field.bit_count as u8, 0, 0, 0]
-}
 
 /// A good map with its fields anywhere.
 pub fn any_map(noise: &mut Noise, chip: MapChip) -> Vec<u8> {

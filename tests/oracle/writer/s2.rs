@@ -1,11 +1,12 @@
 //! The S2: every tag on zeros, ones and noise; every version, unit, attenuation and parameter; the codes; the crypt count.
 use oracle::answers;
+use oracle::noise::Noise;
+use oracle::plain::record;
 use oracle::rules::{Answer, MapChip, RECORD};
 
-use crate::dumps::{Builder, ONES, ZEROS, any_words, lent, noise_dump};
+use crate::dumps::{Builder, ONES, ZEROS, any_words, lent};
 use crate::list::{List, number};
-use crate::maps::{any_map, of_length, record, spoil};
-use crate::noise::Noise;
+use crate::maps::{any_map, of_length, spoil};
 
 const VERSION: u8 = 0;
 const FLASH_ENCRYPTION: u8 = 1;
@@ -127,11 +128,11 @@ pub fn calls() -> List {
         group(noise, dump, &tags());
     }
     for _ in 0..10 {
-        let dump = noise_dump(noise);
+        let dump = noise.dump();
         group(noise, dump, &tags());
     }
     for cases in [whole(READING), whole(SKIPPED), whole(CAL_MV)].concat().chunks(CASES) {
-        let dump = noise_dump(noise);
+        let dump = noise.dump();
         group(noise, dump, cases);
     }
     list

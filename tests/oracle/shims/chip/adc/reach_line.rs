@@ -5,13 +5,6 @@ impl<ADCX> AdcCalLine<ADCX> {
     }
 
     pub fn put_together(coeff_a: u32, coeff_b: u32, vref: u32, unit: u8, use_lut: bool) -> Self {
-        Self {
-            coeff_a,
-            coeff_b,
-            vref,
-            use_lut,
-            unit,
-            _phantom: PhantomData,
-        }
+        Self { coeff_a, coeff_b, vref, use_lut, unit, _phantom: PhantomData }
     }
 }

@@ -1,5 +1,7 @@
 //! A seeded generator (SplitMix64): the same numbers in every run.
 
+use crate::Dump;
+
 pub struct Noise(u64);
 
 impl Noise {
@@ -8,7 +10,7 @@ impl Noise {
         Self(seed)
     }
 
-    pub fn next(&mut self) -> u64 {
+    pub fn long(&mut self) -> u64 {
         self.0 = self.0.wrapping_add(0x9E37_79B9_7F4A_7C15);
         let mut z = self.0;
         z = (z ^ (z >> 30)).wrapping_mul(0xBF58_476D_1CE4_E5B9);
@@ -18,7 +20,7 @@ impl Noise {
 
     /// A number below n.
     pub fn below(&mut self, n: u32) -> u32 {
-        (self.next() % u64::from(n)) as u32
+        (self.long() % u64::from(n)) as u32
     }
 
     /// A number from the first to the last.
@@ -27,11 +29,16 @@ impl Noise {
     }
 
     pub fn byte(&mut self) -> u8 {
-        self.next() as u8
+        self.long() as u8
     }
 
     pub fn pick<T: Copy>(&mut self, from: &[T]) -> T {
         from[self.below(from.len() as u32) as usize]
+    }
+
+    /// A dump of noise.
+    pub fn dump(&mut self) -> Dump {
+        std::array::from_fn(|_| self.long() as u32)
     }
 
     /// True once in n times.
