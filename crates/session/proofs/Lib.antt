@@ -1,3 +1,5 @@
 pub mod Decimals
 pub mod Loads
+pub mod Output
+pub mod Steps
 pub mod Unique

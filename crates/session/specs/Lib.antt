@@ -1,2 +1,4 @@
+pub mod Lines
 pub mod Load
+pub mod Step
 pub mod Text

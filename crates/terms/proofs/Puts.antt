@@ -42,6 +42,11 @@ put-more {before} {s = s} {t = t} {at = at} p q =
       content = q .content ∙ rw (p .past, p .content) (written-more before s at (omega (arith, p .past, p .within)) t);
     }
 
+-- what stands up to the place past the text: what stood before it, and the text
+pub put-front : {before after t : List ℕ} {at n : ℕ} → Put before at t n after → take n after ≡ take at before ++ t
+put-front {before} {t = t} {at = at} p =
+    rw (p .past, p .content) (head before t at (omega (arith, p .past, p .within)))
+
 -- a turn of a loop that writes a word: one entry more of it
 pub put-next : {before l : List ℕ} {at i : ℕ} (word : List ℕ) → i < length word → at + i < length l
     → Put before at (take i word) (at + i) l → Put before at (take (i + 1) word) (at + (i + 1)) (set l (at + i) (getD word i 0))
