@@ -1,6 +1,6 @@
 -- What a caller goes by who has checked a map: each of its fields is read, and fits the largest bit count of its id; and which
 -- numbers a map's refusal can be. Assumes nothing.
-use mathlib.Core.Path.{_≡_, refl, sym, _∙_}
+use mathlib.Core.Path.{_≡_, refl}
 use mathlib.Core.Bool.{Bool, not, _&&_, _||_}
 use mathlib.Core.List.{List}
 use Prim.Native.Nat.{ℕ, _+_, _*_, _-_, _^_, _≤_, _<_, min}

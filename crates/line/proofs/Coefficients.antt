@@ -1,7 +1,7 @@
 -- Laws of the coefficients: the tables' largest entries, where b is refused, and that a and b are inside a record's ranges.
 -- Assumes nothing.
 use mathlib.Core.Path.{_≡_}
-use Prim.Native.Nat.{ℕ, zero, suc, _+_, _*_, _-_, _/_, _≤_, _<_}
+use Prim.Native.Nat.{ℕ, zero, suc, _*_, _-_, _/_, _≤_, _<_}
 use native.Mathlib.Nat.{div-le-of-le-mul, mul-le-mul}
 use native.Mathlib.Omega.{arith}
 use lib.Dec.{ltb}
@@ -12,7 +12,7 @@ use Rattle.line.specs.declared.characterize.Source.{Source}
 use Rattle.line.specs.declared.characterize.Source.the-variants.{TwoPoint, Vref}
 use Rattle.line.specs.Code.{lowOf, highOf, Apart}
 use Rattle.line.specs.Characterize.{tpScale, tpOffset, vrefScale, vrefOffset, twoPointA, topOf, twoPointB, topRefusal}
-use Rattle.line.specs.Characterize.{coefficientsOf, sourceRefusal, InBits}
+use Rattle.line.specs.Characterize.{coefficientsOf, InBits}
 use Rattle.line.proofs.Codes.{points-apart}
 
 -- a unit's entries at the four attenuations are at most these

@@ -1,5 +1,7 @@
 pub mod Codes
 pub mod Coefficients
 pub mod Decoding
+pub mod Exactly
 pub mod Records
+pub mod Sources
 pub mod Unique

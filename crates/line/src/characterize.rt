@@ -24,99 +24,50 @@ pub(crate) struct Coefficients {
 }
 
 // A unit's scale and offset at an attenuation.
-struct Atten {
-    scale: u32,
-    offset: u32,
-}
+struct Atten(u32, u32);
 
-// Of ADC1_TP_ATTEN_SCALE and ADC1_TP_ATTEN_OFFSET, or ADC2_TP_ATTEN_SCALE and ADC2_TP_ATTEN_OFFSET.
 fn tp_atten(unit: u8, atten: u8) -> Atten
     requires { ⌜ atten ≤ 3 ⌝ }
-    ensures { λ r. ⌜ (r .scale ≡ tpScale unit atten) × (r .offset ≡ tpOffset unit atten) ⌝ }
+    ensures { λ r. ⌜ (r .0 ≡ tpScale unit atten) × (r .1 ≡ tpOffset unit atten) ⌝ }
 {
     if unit == 0 {
+        // ADC1_TP_ATTEN_SCALE, ADC1_TP_ATTEN_OFFSET
         match atten {
-            0 => Atten {
-                scale: 65504,
-                offset: 0,
-            },
-            1 => Atten {
-                scale: 86975,
-                offset: 1,
-            },
-            2 => Atten {
-                scale: 120389,
-                offset: 27,
-            },
-            _ => Atten {
-                scale: 224310,
-                offset: 54,
-            },
+            0 => Atten(65504, 0),
+            1 => Atten(86975, 1),
+            2 => Atten(120389, 27),
+            _ => Atten(224310, 54),
         }
     } else {
+        // ADC2_TP_ATTEN_SCALE, ADC2_TP_ATTEN_OFFSET
         match atten {
-            0 => Atten {
-                scale: 65467,
-                offset: 0,
-            },
-            1 => Atten {
-                scale: 86861,
-                offset: 9,
-            },
-            2 => Atten {
-                scale: 120416,
-                offset: 26,
-            },
-            _ => Atten {
-                scale: 224708,
-                offset: 66,
-            },
+            0 => Atten(65467, 0),
+            1 => Atten(86861, 9),
+            2 => Atten(120416, 26),
+            _ => Atten(224708, 66),
         }
     }
 }
 
-// Of ADC1_VREF_ATTEN_SCALE and ADC1_VREF_ATTEN_OFFSET, or ADC2_VREF_ATTEN_SCALE and ADC2_VREF_ATTEN_OFFSET.
 fn vref_atten(unit: u8, atten: u8) -> Atten
     requires { ⌜ atten ≤ 3 ⌝ }
-    ensures { λ r. ⌜ (r .scale ≡ vrefScale unit atten) × (r .offset ≡ vrefOffset unit atten) ⌝ }
+    ensures { λ r. ⌜ (r .0 ≡ vrefScale unit atten) × (r .1 ≡ vrefOffset unit atten) ⌝ }
 {
     if unit == 0 {
+        // ADC1_VREF_ATTEN_SCALE, ADC1_VREF_ATTEN_OFFSET
         match atten {
-            0 => Atten {
-                scale: 57431,
-                offset: 75,
-            },
-            1 => Atten {
-                scale: 76236,
-                offset: 78,
-            },
-            2 => Atten {
-                scale: 105481,
-                offset: 107,
-            },
-            _ => Atten {
-                scale: 196602,
-                offset: 142,
-            },
+            0 => Atten(57431, 75),
+            1 => Atten(76236, 78),
+            2 => Atten(105481, 107),
+            _ => Atten(196602, 142),
         }
     } else {
+        // ADC2_VREF_ATTEN_SCALE, ADC2_VREF_ATTEN_OFFSET
         match atten {
-            0 => Atten {
-                scale: 57236,
-                offset: 63,
-            },
-            1 => Atten {
-                scale: 76175,
-                offset: 66,
-            },
-            2 => Atten {
-                scale: 105678,
-                offset: 89,
-            },
-            _ => Atten {
-                scale: 197170,
-                offset: 128,
-            },
+            0 => Atten(57236, 63),
+            1 => Atten(76175, 66),
+            2 => Atten(105678, 89),
+            _ => Atten(197170, 128),
         }
     }
 }
@@ -162,8 +113,8 @@ fn characterize_using_two_point(unit: u8, atten: u8, high: u32, low: u32) -> Coe
     ensures { λ r. ⌜ r ≡ twoPointLine unit atten low high ⌝ }
 {
     let entry = tp_atten(unit, atten);
-    let scale = entry.scale;
-    let offset = entry.offset;
+    let scale = entry.0;
+    let offset = entry.1;
     Coefficients {
         a: two_point_a(scale, low, high),
         b: two_point_b(top(low, high), offset),
@@ -175,8 +126,8 @@ fn characterize_using_vref(unit: u8, atten: u8, vref: u32) -> Coefficients
     ensures { λ r. ⌜ r ≡ vrefLine unit atten vref ⌝ }
 {
     let entry = vref_atten(unit, atten);
-    let scale = entry.scale;
-    let offset = entry.offset;
+    let scale = entry.0;
+    let offset = entry.1;
     Coefficients {
         a: vref * scale / ADC_12_BIT_RES,
         b: offset,

@@ -1,6 +1,5 @@
 -- `line::source_refusal` meets its contract: in each arm the source is known, and a unit's points are far enough apart.
 -- Assumes nothing.
-use mathlib.Core.Path.{sym, _∙_}
 use borrow.Author.Needs.{needs}
 use Rattle.line.specs.Characterize.{sourceRefusal}
 use Rattle.line.proofs.Codes.{points-apart}

@@ -1,7 +1,7 @@
--- `line::check_efuse_tp` meets its contract: at each `return` the codes read so far decide the definition's tests. Assumes nothing.
+-- `line::check_efuse_tp` meets its contract: at each `return` the fields read so far decide the definition's tests.
+-- Assumes nothing.
 use borrow.Author.Needs.{needs}
-use borrow.Author.Tests.{eq-eqb, ne-eqb}
-use Rattle.line.specs.Decode.{twoPointUsed}
+use Rattle.line.proofs.Sources.{used-reserve, used-low1, used-low2, used-high1, used-high2}
 use Rattle.line.proofs.decode.check_efuse_tp.Statement.{statement}
 use Rattle.line.proofs.decode.check_efuse_tp.Tie as tie
 
@@ -9,53 +9,48 @@ raw-requires : tie.Need-raw-requires
 raw-requires c κs = search needs
 
 returns : tie.Need-returns
-unfolding twoPointUsed
-returns c = rw (← c .before .raw .ensures) (simp (ne-eqb _ _ (c .if1 .taken)))
+returns c = used-reserve _ _ (c .before .raw .ensures) (c .if1 .taken)
 
 raw-requires-2 : tie.Need-raw-requires-2
 raw-requires-2 c κs = search needs
 
 returns-2 : tie.Need-returns-2
-unfolding twoPointUsed
 returns-2 c =
     let p = c .before .before in
-    rw (← p .before .raw .ensures, ← c .before .raw2 .ensures) (simp (eq-eqb _ _ (p .if1 .left), eq-eqb _ _ (c .if2 .taken)))
+    used-low1 _ _ (p .before .raw .ensures) (p .if1 .left) (c .before .raw2 .ensures) (c .if2 .taken)
 
 raw-requires-3 : tie.Need-raw-requires-3
 raw-requires-3 c κs = search needs
 
 returns-3 : tie.Need-returns-3
-unfolding twoPointUsed
 returns-3 c =
     let p = c .before .before in
     let q = p .before .before in
-    rw (← q .before .raw .ensures, ← p .before .raw2 .ensures, ← c .before .raw3 .ensures)
-    (simp (eq-eqb _ _ (q .if1 .left), ne-eqb _ _ (p .if2 .left), eq-eqb _ _ (c .if3 .taken)))
+    used-low2 _ _ (q .before .raw .ensures) (q .if1 .left) (p .before .raw2 .ensures) (p .if2 .left) (c .before .raw3 .ensures)
+    (c .if3 .taken)
 
 raw-requires-4 : tie.Need-raw-requires-4
 raw-requires-4 c κs = search needs
 
 returns-4 : tie.Need-returns-4
-unfolding twoPointUsed
 returns-4 c =
     let p = c .before .before in
     let q = p .before .before in
     let s = q .before .before in
-    rw (← s .before .raw .ensures, ← q .before .raw2 .ensures, ← p .before .raw3 .ensures, ← c .before .raw4 .ensures)
-    (simp (eq-eqb _ _ (s .if1 .left), ne-eqb _ _ (q .if2 .left), ne-eqb _ _ (p .if3 .left), eq-eqb _ _ (c .if4 .taken)))
+    used-high1 _ _ (s .before .raw .ensures) (s .if1 .left) (q .before .raw2 .ensures) (q .if2 .left) (p .before .raw3 .ensures)
+    (p .if3 .left) (c .before .raw4 .ensures) (c .if4 .taken)
 
 raw-requires-5 : tie.Need-raw-requires-5
 raw-requires-5 c κs = search needs
 
 returns-5 : tie.Need-returns-5
-unfolding twoPointUsed
 returns-5 c =
     let p = c .before in
     let q = p .before .before in
     let s = q .before .before in
     let t = s .before .before in
-    rw (← t .before .raw .ensures, ← s .before .raw2 .ensures, ← q .before .raw3 .ensures, ← p .before .raw4 .ensures, ← c .raw5 .ensures)
-    (simp (eq-eqb _ _ (t .if1 .left), ne-eqb _ _ (s .if2 .left), ne-eqb _ _ (q .if3 .left), ne-eqb _ _ (p .if4 .left)))
+    used-high2 _ _ (t .before .raw .ensures) (t .if1 .left) (s .before .raw2 .ensures) (s .if2 .left) (q .before .raw3 .ensures)
+    (q .if3 .left) (p .before .raw4 .ensures) (p .if4 .left) (c .raw5 .ensures)
 
 pub check-efuse-tp-spec : {M : Type 1} → statement M
 check-efuse-tp-spec =

@@ -4,8 +4,8 @@ use denote.Ref.{now}
 use borrow.Author.Needs.{needs}
 use Rattle.efuse.specs.Field.{eight}
 use Rattle.line.specs.Decode.{foundOf, decodedRecord, inputRefusal, decodeRefusal}
-use Rattle.line.proofs.Decoding.{vref-fits, source-in-bits, input-good, decode-input, decode-source, decode-good}
-use Rattle.line.proofs.Decoding.{decode-refused, decode-record}
+use Rattle.line.proofs.Sources.{vref-fits, source-in-bits}
+use Rattle.line.proofs.Decoding.{input-good, decode-input, decode-source, decode-refused, decode-record}
 use Rattle.line.proofs.decode.decode.Statement.{statement}
 use Rattle.line.proofs.decode.decode.Tie as tie
 
@@ -42,7 +42,7 @@ find-requires c κs = (sym (number (c .before)) ∙ c .if2 .left, c .before .bef
 record-from-requires : tie.Need-record-from-requires
 unfolding foundOf
 record-from-requires c κs =
-    rw (c .find .ensures) (vref-fits (input-good _ _ _ _ _ (accepted (c .before .before .before .before)) .mapped))
+    rw (c .find .ensures) (vref-fits _ _ (input-good _ _ _ _ _ (accepted (c .before .before .before .before)) .mapped))
 
 returns-3 : tie.Need-returns-3
 unfolding decodedRecord

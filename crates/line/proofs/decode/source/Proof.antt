@@ -1,8 +1,7 @@
 -- `line::source` meets its contract: the test says which source it is, and the ids of a unit's codes are the map's. Assumes nothing.
 use mathlib.Core.Path.{sym, _∙_}
 use borrow.Author.Needs.{needs}
-use Rattle.line.specs.Decode.{sourceOf}
-use Rattle.line.proofs.Decoding.{unit-ids, source-two-point, source-vref}
+use Rattle.line.proofs.Sources.{low-id, high-id, source-two-point, source-vref}
 use Rattle.line.proofs.decode.source.Statement.{statement}
 use Rattle.line.proofs.decode.source.Tie as tie
 
@@ -15,7 +14,7 @@ by-unit-requires c κs = search needs
 raw-requires : tie.Need-raw-requires
 raw-requires c κs =
     let p = c .before .before .before .before .before in
-    let id = unit-ids (p .args .unit) .0 in
+    let id = low-id (p .args .unit) in
     rw (c .by-unit .ensures) (p .pre, id .0, id .1)
 
 by-unit-requires-2 : tie.Need-by-unit-requires-2
@@ -24,7 +23,7 @@ by-unit-requires-2 c κs = search needs
 raw-requires-2 : tie.Need-raw-requires-2
 raw-requires-2 c κs =
     let p = c .before .before .before .before .before .before .before in
-    let id = unit-ids (p .args .unit) .1 in
+    let id = high-id (p .args .unit) in
     rw (c .by-unit2 .ensures) (p .pre, id .0, id .1)
 
 returns : tie.Need-returns
