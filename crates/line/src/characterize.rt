@@ -2,7 +2,9 @@
 use crate::code;
 use terms::refusal;
 ghost use mathlib.Core.Path.{_≡_};
+ghost use mathlib.Core.List.{[], _∷_};
 ghost use Prim.Native.Nat.{_≤_};
+ghost use lib.ListN.{getD};
 ghost use Rattle.line.specs.Code.{Apart};
 ghost use Rattle.line.specs.Characterize.{tpScale, tpOffset, vrefScale, vrefOffset, twoPointA, topOf, twoPointB, topRefusal, twoPointLine, vrefLine, coefficientsOf, sourceRefusal, InBits};
 
@@ -26,27 +28,41 @@ pub(crate) struct Coefficients {
 // A unit's scale and offset at an attenuation.
 struct Atten(u32, u32);
 
+// The entry at an attenuation of a table of four.
+fn entry(atten: u8, a: Atten, b: Atten, c: Atten, d: Atten) -> Atten
+    requires { ⌜ atten ≤ 3 ⌝ }
+    ensures { λ r. ⌜ (r .0 ≡ getD (a .0 ∷ b .0 ∷ c .0 ∷ d .0 ∷ []) atten 0) × (r .1 ≡ getD (a .1 ∷ b .1 ∷ c .1 ∷ d .1 ∷ []) atten 0) ⌝ }
+{
+    match atten {
+        0 => a,
+        1 => b,
+        2 => c,
+        _ => d,
+    }
+}
+
 fn tp_atten(unit: u8, atten: u8) -> Atten
     requires { ⌜ atten ≤ 3 ⌝ }
     ensures { λ r. ⌜ (r .0 ≡ tpScale unit atten) × (r .1 ≡ tpOffset unit atten) ⌝ }
 {
     if unit == 0 {
         // ADC1_TP_ATTEN_SCALE, ADC1_TP_ATTEN_OFFSET
-        match atten {
-            0 => Atten(65504, 0),
-            1 => Atten(86975, 1),
-            2 => Atten(120389, 27),
-            _ => Atten(224310, 54),
-        }
-    } else {
-        // ADC2_TP_ATTEN_SCALE, ADC2_TP_ATTEN_OFFSET
-        match atten {
-            0 => Atten(65467, 0),
-            1 => Atten(86861, 9),
-            2 => Atten(120416, 26),
-            _ => Atten(224708, 66),
-        }
+        return entry(
+            atten,
+            Atten(65504, 0),
+            Atten(86975, 1),
+            Atten(120389, 27),
+            Atten(224310, 54),
+        );
     }
+    // ADC2_TP_ATTEN_SCALE, ADC2_TP_ATTEN_OFFSET
+    entry(
+        atten,
+        Atten(65467, 0),
+        Atten(86861, 9),
+        Atten(120416, 26),
+        Atten(224708, 66),
+    )
 }
 
 fn vref_atten(unit: u8, atten: u8) -> Atten
@@ -55,21 +71,22 @@ fn vref_atten(unit: u8, atten: u8) -> Atten
 {
     if unit == 0 {
         // ADC1_VREF_ATTEN_SCALE, ADC1_VREF_ATTEN_OFFSET
-        match atten {
-            0 => Atten(57431, 75),
-            1 => Atten(76236, 78),
-            2 => Atten(105481, 107),
-            _ => Atten(196602, 142),
-        }
-    } else {
-        // ADC2_VREF_ATTEN_SCALE, ADC2_VREF_ATTEN_OFFSET
-        match atten {
-            0 => Atten(57236, 63),
-            1 => Atten(76175, 66),
-            2 => Atten(105678, 89),
-            _ => Atten(197170, 128),
-        }
+        return entry(
+            atten,
+            Atten(57431, 75),
+            Atten(76236, 78),
+            Atten(105481, 107),
+            Atten(196602, 142),
+        );
     }
+    // ADC2_VREF_ATTEN_SCALE, ADC2_VREF_ATTEN_OFFSET
+    entry(
+        atten,
+        Atten(57236, 63),
+        Atten(76175, 66),
+        Atten(105678, 89),
+        Atten(197170, 128),
+    )
 }
 
 // Document 01's t.
