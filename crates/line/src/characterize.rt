@@ -12,6 +12,8 @@ const TP_LOW_VOLTAGE: u32 = 150;
 
 const TP_HIGH_VOLTAGE: u32 = 850;
 
+const DELTA_V: u32 = TP_HIGH_VOLTAGE - TP_LOW_VOLTAGE;
+
 const ADC_12_BIT_RES: u32 = 4096;
 
 // Where a and b come from: two points, with the raw bits of the unit's low and high codes, or Vref.
@@ -20,6 +22,7 @@ pub(crate) enum Source {
     Vref,
 }
 
+// A line's coefficients.
 pub(crate) struct Coefficients {
     pub(crate) a: u32,
     pub(crate) b: u32,
@@ -31,7 +34,8 @@ struct Atten(u32, u32);
 // The entry at an attenuation of a table of four.
 fn entry(atten: u8, a: Atten, b: Atten, c: Atten, d: Atten) -> Atten
     requires { ⌜ atten ≤ 3 ⌝ }
-    ensures { λ r. ⌜ (r .0 ≡ getD (a .0 ∷ b .0 ∷ c .0 ∷ d .0 ∷ []) atten 0) × (r .1 ≡ getD (a .1 ∷ b .1 ∷ c .1 ∷ d .1 ∷ []) atten 0) ⌝ }
+    ensures scale { λ r. ⌜ r .0 ≡ getD (a .0 ∷ b .0 ∷ c .0 ∷ d .0 ∷ []) atten 0 ⌝ }
+    ensures offset { λ r. ⌜ r .1 ≡ getD (a .1 ∷ b .1 ∷ c .1 ∷ d .1 ∷ []) atten 0 ⌝ }
 {
     match atten {
         0 => a,
@@ -89,14 +93,13 @@ fn vref_atten(unit: u8, atten: u8) -> Atten
     )
 }
 
-// Document 01's t.
+// Document 01's t: b is 850 less t, before the offset.
 fn top(low: u32, high: u32) -> u32
     requires { ⌜ Apart low high ⌝ }
     ensures { λ r. ⌜ r ≡ topOf low high ⌝ }
 {
     let delta_x = high - low;
-    let delta_v = TP_HIGH_VOLTAGE - TP_LOW_VOLTAGE;
-    (delta_v * high + delta_x / 2) / delta_x
+    (DELTA_V * high + delta_x / 2) / delta_x
 }
 
 // 9 where b's sum would go below zero.
@@ -109,15 +112,16 @@ fn top_refusal(t: u32) -> u8
     refusal::NONE
 }
 
+// a by two points.
 fn two_point_a(scale: u32, low: u32, high: u32) -> u32
     requires { ⌜ (scale ≤ 224708) × Apart low high ⌝ }
     ensures { λ r. ⌜ r ≡ twoPointA scale low high ⌝ }
 {
     let delta_x = high - low;
-    let delta_v = TP_HIGH_VOLTAGE - TP_LOW_VOLTAGE;
-    (delta_v * scale + delta_x / 2) / delta_x
+    (DELTA_V * scale + delta_x / 2) / delta_x
 }
 
+// b by two points, where t isn't refused.
 fn two_point_b(t: u32, offset: u32) -> u32
     requires { ⌜ (topRefusal t ≡ 0) × (offset ≤ 66) ⌝ }
     ensures { λ r. ⌜ r ≡ twoPointB t offset ⌝ }
@@ -125,6 +129,7 @@ fn two_point_b(t: u32, offset: u32) -> u32
     TP_HIGH_VOLTAGE - t + offset
 }
 
+// a and b from the counts at 850 mV and at 150 mV.
 fn characterize_using_two_point(unit: u8, atten: u8, high: u32, low: u32) -> Coefficients
     requires { ⌜ (unit ≤ 1) × (atten ≤ 3) × Apart low high × (topRefusal (topOf low high) ≡ 0) ⌝ }
     ensures { λ r. ⌜ r ≡ twoPointLine unit atten low high ⌝ }
@@ -138,6 +143,7 @@ fn characterize_using_two_point(unit: u8, atten: u8, high: u32, low: u32) -> Coe
     }
 }
 
+// a and b from Vref in millivolts.
 fn characterize_using_vref(unit: u8, atten: u8, vref: u32) -> Coefficients
     requires { ⌜ (unit ≤ 1) × (atten ≤ 3) × (vref ≤ 1205) ⌝ }
     ensures { λ r. ⌜ r ≡ vrefLine unit atten vref ⌝ }
