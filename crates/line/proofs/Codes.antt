@@ -117,7 +117,8 @@ module _ {base width bits sign : ℕ} (k : Coded base width bits) (worth : sign 
   point-minus h {r} less e =
       let small : 2 ^ width ≤ 2 ^ 9 = pow-mono (k .short) in
       let same : r ≡ wrapped bits = omega arith in
-      rw (same, code-minus width bits (omega arith), ← worth) (stepped-minus base 4 (wrapped bits % sign) (cut-room (wrapped bits)))
+      rw (same, code-minus width bits (omega arith), ← worth)
+      (stepped-minus base 4 (wrapped bits % sign) (cut-room (wrapped bits)))
 
 -- what holds of ADC1's and of ADC2's holds of a unit's
 pub by-unit : (P : ℕ → Type 0) (unit : ℕ) {adc1 adc2 : ℕ} → P adc1 → P adc2 → P (byUnit unit adc1 adc2)

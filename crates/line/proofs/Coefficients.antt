@@ -65,8 +65,8 @@ pub line-ranges : (unit atten vref : ℕ) (source : Source) → unit ≤ 1 → a
 unfolding coefficientsOf
 line-ranges unit atten vref (TwoPoint low high) u a v =
     let most = tp-most unit atten u a in
-    let t : ℕ = topOf (lowOf unit low) (highOf unit high) in
-    (two-point-a-most _ _ _ (most .0) (points-apart unit low high), omega (arith, two-point-b-most t (tpOffset unit atten) (most .1)))
+    let b = two-point-b-most (topOf (lowOf unit low) (highOf unit high)) (tpOffset unit atten) (most .1) in
+    (two-point-a-most _ _ _ (most .0) (points-apart unit low high), omega arith)
 line-ranges unit atten vref Vref u a v =
     let most = vref-most unit atten u a in
     (vref-a-most vref _ v (most .0), omega arith)

@@ -1,5 +1,5 @@
--- Laws of decoding: which case its refusal is, what is known where nothing is refused, which case a decoding is, and that a decoded
--- record passes the record check. Assumes nothing.
+-- Laws of decoding: which case its refusal is, what is known where nothing is refused, which case a decoding is, and that a
+-- decoded record passes the record check. Assumes nothing.
 use mathlib.Core.Path.{_≡_, refl, sym, _∙_, ap}
 use mathlib.Core.Bool.{Bool, not, _||_}
 use mathlib.Core.List.{List}
@@ -24,7 +24,7 @@ use Rattle.line.proofs.Codes.{vref-range}
 use Rattle.line.proofs.Coefficients.{line-ranges}
 use Rattle.line.proofs.Sources.{vref-fits}
 
--- a decoding has the number and the record that it was given, noRecord beside a refusal
+-- a decoding has the number and the record that it was given, zeros beside a refusal
 pub decoded-number : (n : ℕ) (r : LineRecord) → numberOf (answered n (Record r) Refused) ≡ n
 decoded-number zero r = refl
 decoded-number (suc n) r = refl

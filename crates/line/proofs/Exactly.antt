@@ -48,7 +48,12 @@ module _ (words : ℕ → ℕ) (dump map : List ℕ) (unit atten : ℕ) where
   unfolding sourceRefusal
   source-never t = rw (source-vref dump map unit t)
 
-  -- each number, and what it is given for
+  -- each number with what it is given for:
+  -- 1: the dump hasn't 88 words
+  -- 7: unit above 1 or attenuation above 3
+  -- 2 to 6: the map's
+  -- 9: two points are used, and t is above 850
+  -- 0: none of these
   pub data Why : ℕ → Type 0 where
     no-dump : (length dump ≡ 88 → ⊥) → Why 1
     no-unit : length dump ≡ 88 → (unit ≤ 1 → atten ≤ 3 → ⊥) → Why 7
@@ -62,7 +67,7 @@ module _ (words : ℕ → ℕ) (dump map : List ℕ) (unit atten : ℕ) where
   by-source : Good → {n : ℕ} → sourceRefusal unit (sourceOf dump map unit) ≡ n → decoding ≡ n
   by-source k e = sym (decode-source _ _ _ _ _ (input-accepts _ _ _ _ _ k) refl (sym e))
 
-  -- it is given exactly then
+  -- what it is given for gives it
   pub given : {n : ℕ} → Why n → decoding ≡ n
   given (no-dump d) = by-input (input-dump _ _ _ _ _ d) (λ e. omega arith)
   given (no-unit d h) =
@@ -89,6 +94,7 @@ module _ (words : ℕ → ℕ) (dump map : List ℕ) (unit atten : ℕ) where
       (λ m. why-source (record { mapped = record { whole = d; passed = eqb-true _ _ m }; units = u; attens = a }))
       (λ m. let n = map-number words Esp32 map (eqb-false _ _ m) in told (no-map d u a refl (n .0) (n .1)))
 
+  -- and what is given has that ground
   pub why : Why decoding
   why =
       by-case (eqb (length dump) 88)

@@ -1,4 +1,4 @@
--- What a decoding reads from a dump and a map of which nothing is refused: fields that fit their bits, and so codes that fit theirs.
+-- Laws of what a decoding reads: fields of a map that passed fit their bits, whether two points are used, and which source it is.
 -- Assumes nothing.
 use mathlib.Core.Path.{_≡_}
 use mathlib.Core.Bool.{Bool, true, false, not, cond}

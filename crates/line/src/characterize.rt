@@ -6,7 +6,8 @@ ghost use mathlib.Core.List.{[], _∷_};
 ghost use Prim.Native.Nat.{_≤_};
 ghost use lib.ListN.{getD};
 ghost use Rattle.line.specs.Code.{Apart};
-ghost use Rattle.line.specs.Characterize.{tpScale, tpOffset, vrefScale, vrefOffset, twoPointA, topOf, twoPointB, topRefusal, twoPointLine, vrefLine, coefficientsOf, sourceRefusal, InBits};
+ghost use Rattle.line.specs.Characterize.{tpScale, tpOffset, vrefScale, vrefOffset, twoPointA, topOf, twoPointB};
+ghost use Rattle.line.specs.Characterize.{topRefusal, twoPointLine, vrefLine, coefficientsOf, sourceRefusal, InBits};
 
 const TP_LOW_VOLTAGE: u32 = 150;
 

@@ -15,7 +15,8 @@ use terms::refusal::Refusal;
 ghost use mathlib.Core.Path.{_≡_};
 ghost use Prim.Native.Nat.{_≤_, _<_};
 ghost use Rattle.efuse.specs.Field.{eight};
-ghost use Rattle.line.specs.Decode.{Mapped, rawOf, twoPointUsed, sourceOf, foundOf, recordFrom, inputRefusal, decodeRefusal, decodeOf};
+ghost use Rattle.line.specs.Decode.{rawOf, twoPointUsed, sourceOf, foundOf, recordFrom};
+ghost use Rattle.line.specs.Decode.{inputRefusal, decodeRefusal, decodeOf, Mapped};
 
 const DUMP_WORDS: usize = 88;
 

@@ -29,7 +29,13 @@ returns : tie.Need-returns
 unfolding sourceRefusal
 returns c =
     let p = c .before .before .before in
-    rw (c .top-refusal .ensures, c .before .top .ensures, p .efuse-tp-low .ensures, c .before .before .efuse-tp-high .ensures, p .before .before .source .given .1)
+    rw (
+      c .top-refusal .ensures,
+      c .before .top .ensures,
+      c .before .before .efuse-tp-high .ensures,
+      p .efuse-tp-low .ensures,
+      p .before .before .source .given .1,
+    )
 
 returns-2 : tie.Need-returns-2
 unfolding sourceRefusal

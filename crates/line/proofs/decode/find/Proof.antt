@@ -12,7 +12,8 @@ raw-requires : tie.Need-raw-requires
 raw-requires c κs = (decode-good _ _ _ _ _ (c .before .before .pre .0) .0 .mapped, lit≤ tt, lit≤ tt)
 
 efuse-vref-requires : tie.Need-efuse-vref-requires
-efuse-vref-requires c κs = rw (c .raw .ensures) (vref-fits _ _ (decode-good _ _ _ _ _ (c .before .before .before .pre .0) .0 .mapped))
+efuse-vref-requires c κs =
+    rw (c .raw .ensures) (vref-fits _ _ (decode-good _ _ _ _ _ (c .before .before .before .pre .0) .0 .mapped))
 
 characterize-requires : tie.Need-characterize-requires
 characterize-requires c κs =

@@ -1,4 +1,5 @@
--- `line::source` meets its contract: the test says which source it is, and the ids of a unit's codes are the map's. Assumes nothing.
+-- `line::source` meets its contract: the test says which source it is, and the ids of a unit's codes are a map's.
+-- Assumes nothing.
 use mathlib.Core.Path.{sym, _∙_}
 use borrow.Author.Needs.{needs}
 use Rattle.line.proofs.Sources.{low-id, high-id, source-two-point, source-vref}
