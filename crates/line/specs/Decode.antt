@@ -37,10 +37,10 @@ twoPointUsed dump map =
 
 -- the raw bits of a unit's low and high codes
 abbrev pub lowBits : List ℕ → List ℕ → ℕ → ℕ
-lowBits dump map unit = rawOf dump map (byUnit unit 3 4)
+lowBits dump map unit = byUnit unit (rawOf dump map 3) (rawOf dump map 4)
 
 abbrev pub highBits : List ℕ → List ℕ → ℕ → ℕ
-highBits dump map unit = rawOf dump map (byUnit unit 5 6)
+highBits dump map unit = byUnit unit (rawOf dump map 5) (rawOf dump map 6)
 
 -- "else Vref"
 unfoldable pub sourceOf : List ℕ → List ℕ → ℕ → Source
