@@ -1,9 +1,9 @@
 -- What a caller goes by who has checked a map: each of its fields is read, and fits the largest bit count of its id; and which
 -- numbers a map's refusal can be. Assumes nothing.
-use mathlib.Core.Path.{_≡_, refl, sym, _∙_}
+use mathlib.Core.Path.{_≡_, refl}
 use mathlib.Core.Bool.{Bool, not, _&&_, _||_}
 use mathlib.Core.List.{List}
-use Prim.Native.Nat.{ℕ, _+_, _*_, _-_, _^_, _≤_, _<_, min}
+use Prim.Native.Nat.{ℕ, _+_, _*_, _-_, _^_, _≤_, _<_}
 use native.Mathlib.Nat.{le-trans, min-le-left}
 use native.Mathlib.Omega.{arith}
 use lib.ListN.{length, getD}
@@ -19,7 +19,8 @@ use Rattle.efuse.specs.declared.field.Read.{Read}
 use Rattle.efuse.specs.declared.field.Read.the-variants.{Value, Refused}
 use Rattle.efuse.specs.declared.map.BitCounts.{BitCounts}
 use Rattle.efuse.specs.Field.{fieldBits, readOf, placeRefusal}
-use Rattle.efuse.specs.Map.{fieldOf, strayOf, recordByte, idsOf, exactly, bitCounts, countRefusal, recordRefusal, recordRefusals, mapRefusal}
+use Rattle.efuse.specs.Map.{recordByte, fieldOf, strayOf, idsOf, exactly, bitCounts}
+use Rattle.efuse.specs.Map.{countRefusal, recordRefusal, recordRefusals, mapRefusal}
 use Rattle.efuse.proofs.Bits.{bits-fit}
 use Rattle.efuse.proofs.Places.{read-value}
 use Rattle.efuse.proofs.Maps.{record-good, map-record, map-read}

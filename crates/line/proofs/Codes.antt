@@ -41,29 +41,29 @@ stepped-minus base step n h =
     let d : dn (negℤ (pos n)) ≡ n = dn-neg (pos n) in
     sym (stepped-natural base step (negℤ (pos n)) (rw d h) ∙ rw (u, d) (omega arith))
 
--- Vref by its bits, and its range
-module _ (bits : ℕ) where
-  pub vref-plus : bits < 16 → 1100 + 7 * bits ≡ vrefOf bits
+-- Vref by its five bits: its two cases, as a test of the sign bit gives them, and its range
+module _ {bits : ℕ} (five : bits < 32) where
+  module _ {sign : ℕ} (worth : sign ≡ 16) where
+    pub vref-plus : bits < sign → 1100 + 7 * bits ≡ vrefOf bits
+    unfolding vrefOf
+    vref-plus h = rw (sign-plus 5 bits (omega arith))
+
+    pub vref-minus : sign ≤ bits → 1100 - 7 * (bits - sign) ≡ vrefOf bits
+    unfolding vrefOf
+    vref-minus h = rw (worth, sign-minus 5 bits (omega arith)) (stepped-minus 1100 7 (bits - 16) (omega arith))
+
+  vref-room : 7 * dn (signMagnitude 5 bits) ≤ 1100
+  vref-room = omega (arith, sign-fits 5 bits (omega arith) five)
+
+  pub vref-whole : pos (vrefOf bits) ≡ pos 1100 +ℤ pos 7 *ℤ signMagnitude 5 bits
   unfolding vrefOf
-  vref-plus h = rw (sign-plus 5 bits h)
+  vref-whole = stepped-whole 1100 7 (signMagnitude 5 bits) vref-room
 
-  module _ (five : bits < 32) where
-    pub vref-minus : 16 ≤ bits → 1100 - 7 * (bits - 16) ≡ vrefOf bits
-    unfolding vrefOf
-    vref-minus h = rw (sign-minus 5 bits h) (stepped-minus 1100 7 (bits - 16) (omega arith))
-
-    vref-room : 7 * dn (signMagnitude 5 bits) ≤ 1100
-    vref-room = omega (arith, sign-fits 5 bits (omega arith) five)
-
-    pub vref-whole : pos (vrefOf bits) ≡ pos 1100 +ℤ pos 7 *ℤ signMagnitude 5 bits
-    unfolding vrefOf
-    vref-whole = stepped-whole 1100 7 (signMagnitude 5 bits) vref-room
-
-    pub vref-range : (995 ≤ vrefOf bits) × (vrefOf bits ≤ 1205)
-    unfolding vrefOf
-    vref-range =
-        let fits = sign-fits 5 bits (omega arith) five in
-        rw (stepped-natural 1100 7 (signMagnitude 5 bits) vref-room) (omega arith, omega arith)
+  pub vref-range : (995 ≤ vrefOf bits) × (vrefOf bits ≤ 1205)
+  unfolding vrefOf
+  vref-range =
+      let fits = sign-fits 5 bits (omega arith) five in
+      rw (stepped-natural 1100 7 (signMagnitude 5 bits) vref-room) (omega arith, omega arith)
 
 -- a two-point code, over the width
 module _ (width bits : ℕ) where
@@ -117,37 +117,42 @@ module _ {base width bits sign : ℕ} (k : Coded base width bits) (worth : sign 
   point-minus h {r} less e =
       let small : 2 ^ width ≤ 2 ^ 9 = pow-mono (k .short) in
       let same : r ≡ wrapped bits = omega arith in
-      rw (same, code-minus width bits (omega arith), ← worth) (stepped-minus base 4 (wrapped bits % sign) (cut-room (wrapped bits)))
+      rw (same, code-minus width bits (omega arith), ← worth)
+      (stepped-minus base 4 (wrapped bits % sign) (cut-room (wrapped bits)))
 
--- a unit's points: the bases have room for the lowest codes
-low-base : (adc1 : Bool) (bits : ℕ) → bits < 128 → Coded (cond adc1 278 421) 7 bits
-low-base true bits h = record { some = lit≤ tt; short = lit≤ tt; inside = h; room = lit≤ tt; most = lit≤ tt }
-low-base false bits h = record { some = lit≤ tt; short = lit≤ tt; inside = h; room = lit≤ tt; most = lit≤ tt }
+-- what holds of ADC1's and of ADC2's holds of a unit's
+pub by-unit : (P : ℕ → Type 0) (unit : ℕ) {adc1 adc2 : ℕ} → P adc1 → P adc2 → P (byUnit unit adc1 adc2)
+by-unit P unit {adc1} {adc2} p q = by (eqb unit 0)
+  where
+    by : (t : Bool) → P (cond t adc1 adc2)
+    by true = p
+    by false = q
 
-high-base : (adc1 : Bool) (bits : ℕ) → bits < 512 → Coded (cond adc1 3265 3406) 9 bits
-high-base true bits h = record { some = lit≤ tt; short = lit≤ tt; inside = h; room = lit≤ tt; most = lit≤ tt }
-high-base false bits h = record { some = lit≤ tt; short = lit≤ tt; inside = h; room = lit≤ tt; most = lit≤ tt }
-
-apart : (adc1 : Bool) (low high : ℕ) → Apart (pointOf (cond adc1 278 421) 7 low) (pointOf (cond adc1 3265 3406) 9 high)
-apart true low high =
-    let l = point-range 278 7 low (lit≤ tt) in
-    let h = point-range 3265 9 high (lit≤ tt) in
-    record { least = omega arith; most = omega arith }
-apart false low high =
-    let l = point-range 421 7 low (lit≤ tt) in
-    let h = point-range 3406 9 high (lit≤ tt) in
-    record { least = omega arith; most = omega arith }
-
+-- a unit's bases have room for the lowest codes
 pub low-coded : (unit bits : ℕ) → bits < 128 → Coded (byUnit unit 278 421) 7 bits
-low-coded unit = low-base (eqb unit 0)
+low-coded unit bits h =
+    let base = by-unit (λ base. (256 ≤ base) × (base ≤ 3406)) unit (lit≤ tt, lit≤ tt) (lit≤ tt, lit≤ tt) in
+    record { some = lit≤ tt; short = lit≤ tt; inside = h; room = base .0; most = base .1 }
 
 pub high-coded : (unit bits : ℕ) → bits < 512 → Coded (byUnit unit 3265 3406) 9 bits
-high-coded unit = high-base (eqb unit 0)
+high-coded unit bits h =
+    let base = by-unit (λ base. (1024 ≤ base) × (base ≤ 3406)) unit (lit≤ tt, lit≤ tt) (lit≤ tt, lit≤ tt) in
+    record { some = lit≤ tt; short = lit≤ tt; inside = h; room = base .0; most = base .1 }
 
 -- "d = high − low (never below 1713)"
 pub points-apart : (unit low high : ℕ) → Apart (lowOf unit low) (highOf unit high)
 unfolding lowOf highOf
-points-apart unit = apart (eqb unit 0)
+points-apart unit low high = by (eqb unit 0)
+  where
+    by : (t : Bool) → Apart (pointOf (cond t 278 421) 7 low) (pointOf (cond t 3265 3406) 9 high)
+    by true =
+        let l = point-range 278 7 low (lit≤ tt) in
+        let h = point-range 3265 9 high (lit≤ tt) in
+        record { least = omega arith; most = omega arith }
+    by false =
+        let l = point-range 421 7 low (lit≤ tt) in
+        let h = point-range 3406 9 high (lit≤ tt) in
+        record { least = omega arith; most = omega arith }
 
 -- d is 1713 at unit 1, low code 63, high code −255
 pub points-nearest : lowOf 1 0x3F + 1713 ≡ highOf 1 0x101

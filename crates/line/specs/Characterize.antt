@@ -62,7 +62,7 @@ unfoldable pub sourceRefusal : ℕ → Source → ℕ
 sourceRefusal unit (TwoPoint low high) = topRefusal (topOf (lowOf unit low) (highOf unit high))
 sourceRefusal unit Vref = 0
 
--- codes that "7 and 9 bits" can hold
+-- What private functions ask of a source: codes that "7 and 9 bits" can hold
 abbrev pub InBits : Source → Type 0
 InBits (TwoPoint low high) = (low < 128) × (high < 512)
 InBits Vref = Unit

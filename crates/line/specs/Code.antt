@@ -33,14 +33,6 @@ twoPointCode width bits =
 unfoldable pub pointOf : ℕ → ℕ → ℕ → ℕ
 pointOf base width bits = stepped base 4 (twoPointCode width bits)
 
--- a code of that width, at a base that it doesn't take below zero
-pub record Coded (base width bits : ℕ) : Type 0 where
-  pub some : 1 ≤ width
-  pub short : width ≤ 9
-  pub inside : bits < 2 ^ width
-  pub room : 4 * 2 ^ (width - 1) ≤ base
-  pub most : base ≤ 3406
-
 -- "low = 278 or 421 + 4 × code"
 unfoldable pub lowOf : ℕ → ℕ → ℕ
 lowOf unit bits = pointOf (byUnit unit 278 421) 7 bits
@@ -49,7 +41,16 @@ lowOf unit bits = pointOf (byUnit unit 278 421) 7 bits
 unfoldable pub highOf : ℕ → ℕ → ℕ
 highOf unit bits = pointOf (byUnit unit 3265 3406) 9 bits
 
--- a unit's points: "d = high − low (never below 1713)", and the largest high is 3406 + 4 × 255
+-- What private functions ask of their arguments, which every field and unit keeps.
+-- A code of that width, at a base that it doesn't take below zero
+pub record Coded (base width bits : ℕ) : Type 0 where
+  pub some : 1 ≤ width
+  pub short : width ≤ 9
+  pub inside : bits < 2 ^ width
+  pub room : 4 * 2 ^ (width - 1) ≤ base
+  pub most : base ≤ 3406
+
+-- A unit's points: "d = high − low (never below 1713)", and the largest high is 3406 + 4 × 255
 pub record Apart (low high : ℕ) : Type 0 where
   pub least : low + 1713 ≤ high
   pub most : high ≤ 4426

@@ -1,6 +1,7 @@
 -- Document 01, "ESP32 line rules", and the order of "Numbers given when a call is turned down" for decoding: "1, 7, 2, then map
 -- records first to last with 3, 4, 5, 6 within each, then .. 9". A dump is the list of its words, a map that of its bytes.
--- In the crate: `new_cal` and `check_efuse_tp` of calibration/line/esp32.rs.
+-- In the crate: `new_cal` and `check_efuse_tp` of calibration/line/esp32.rs, which cites ESP-IDF's
+-- components/esp_adc/esp32/adc_cali_line_fitting.c, line 155.
 use mathlib.Core.Path.{_≡_}
 use mathlib.Core.Bool.{Bool, false, not, cond, _&&_, _||_}
 use mathlib.Core.List.{List}
@@ -35,10 +36,16 @@ twoPointUsed dump map =
     && not (eqb (rawOf dump map 5) 0)
     && not (eqb (rawOf dump map 6) 0)
 
+-- the raw bits of a unit's low and high codes
+abbrev pub lowBits : List ℕ → List ℕ → ℕ → ℕ
+lowBits dump map unit = byUnit unit (rawOf dump map 3) (rawOf dump map 4)
+
+abbrev pub highBits : List ℕ → List ℕ → ℕ → ℕ
+highBits dump map unit = byUnit unit (rawOf dump map 5) (rawOf dump map 6)
+
 -- "else Vref"
 unfoldable pub sourceOf : List ℕ → List ℕ → ℕ → Source
-sourceOf dump map unit =
-    cond (twoPointUsed dump map) (TwoPoint (rawOf dump map (byUnit unit 3 4)) (rawOf dump map (byUnit unit 5 6))) Vref
+sourceOf dump map unit = cond (twoPointUsed dump map) (TwoPoint (lowBits dump map unit) (highBits dump map unit)) Vref
 
 -- what a record is made from: where a and b come from, the raw bits of ADC_VREF, which is id 1, and a and b
 unfoldable pub foundOf : List ℕ → List ℕ → ℕ → ℕ → Found
@@ -49,7 +56,7 @@ foundOf dump map unit atten =
 
 -- the record made from it; its Vref is that of id 1, whatever a and b come from
 abbrev pub recordFrom : Found → ℕ → ℕ → LineRecord
-recordFrom c unit atten = recordOf (c .line .a) (c .line .b) (vrefOf (c .vref)) unit atten
+recordFrom found unit atten = recordOf (found .line .a) (found .line .b) (vrefOf (found .vref)) unit atten
 
 unfoldable pub decodedRecord : List ℕ → List ℕ → ℕ → ℕ → LineRecord
 decodedRecord dump map unit atten = recordFrom (foundOf dump map unit atten) unit atten
@@ -63,11 +70,6 @@ inputRefusal words dump map unit atten =
     (refuse (ltb 1 unit || ltb 3 atten) 7
     (mapRefusal words Esp32 map))
 
--- a dump and a map of which nothing is refused, so that each field of the map may be read
-pub record Mapped (words : ℕ → ℕ) (dump map : List ℕ) : Type 0 where
-  pub whole : length dump ≡ 88
-  pub passed : mapRefusal words Esp32 map ≡ 0
-
 -- then 9
 unfoldable pub decodeRefusal : (ℕ → ℕ) → List ℕ → List ℕ → ℕ → ℕ → ℕ
 decodeRefusal words dump map unit atten =
@@ -78,14 +80,19 @@ abbrev pub numberOf : Decoded → ℕ
 numberOf (Record r) = 0
 numberOf (Refused r) = r .number
 
-abbrev pub zeros : LineRecord
-zeros = record { «coeff_a» = 0; «coeff_b» = 0; vref = 0; unit = 0; «use_lut» = false }
+abbrev pub noRecord : LineRecord
+noRecord = record { «coeff_a» = 0; «coeff_b» = 0; vref = 0; unit = 0; «use_lut» = false }
 
 abbrev pub valueOf : Decoded → LineRecord
 valueOf (Record r) = r
-valueOf (Refused r) = zeros
+valueOf (Refused r) = noRecord
 
 -- "Decoding answers a record or one number"
 unfoldable pub decodeOf : (ℕ → ℕ) → List ℕ → List ℕ → ℕ → ℕ → Decoded
 decodeOf words dump map unit atten =
     answered (decodeRefusal words dump map unit atten) (Record (decodedRecord dump map unit atten)) Refused
+
+-- What private functions ask of a dump and a map: nothing in them is refused, so that each field of the map may be read
+pub record Mapped (words : ℕ → ℕ) (dump map : List ℕ) : Type 0 where
+  pub whole : length dump ≡ 88
+  pub passed : mapRefusal words Esp32 map ≡ 0

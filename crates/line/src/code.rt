@@ -1,4 +1,5 @@
-// The signed codes: Vref in sign and magnitude, two-point codes in two's complement but for one pattern. In the crate: `decode_bits`.
+// The signed codes: Vref's in sign and magnitude, two-point codes in two's complement but for one pattern. In the crate:
+// `decode_bits`.
 ghost use mathlib.Core.Path.{_≡_};
 ghost use Prim.Native.Nat.{_-_, _^_, _≤_, _<_};
 ghost use Rattle.line.specs.Code.{byUnit, vrefOf, pointOf, Coded, lowOf, highOf};

@@ -15,7 +15,8 @@ use terms::refusal::Refusal;
 ghost use mathlib.Core.Path.{_≡_};
 ghost use Prim.Native.Nat.{_≤_, _<_};
 ghost use Rattle.efuse.specs.Field.{eight};
-ghost use Rattle.line.specs.Decode.{Mapped, rawOf, twoPointUsed, sourceOf, foundOf, recordFrom, inputRefusal, decodeRefusal, numberOf, decodeOf};
+ghost use Rattle.line.specs.Decode.{rawOf, sourceOf, foundOf, recordFrom};
+ghost use Rattle.line.specs.Decode.{inputRefusal, decodeRefusal, numberOf, decodeOf, Mapped};
 
 const DUMP_WORDS: usize = 88;
 
@@ -81,37 +82,34 @@ fn raw(dump: &[u32], map: &[u8], id: u32) -> u32
     bits
 }
 
-// Whether two points are used.
-fn check_efuse_tp(dump: &[u32], map: &[u8]) -> bool
-    requires { ⌜ Mapped eight (now dump) (now map) ⌝ }
-    ensures { λ r. ⌜ r ≡ twoPointUsed (now (dump .entry)) (now (map .entry)) ⌝ }
-{
-    if raw(dump, map, BLK3_PART_RESERVE) != 1 {
-        return false;
-    }
-    if raw(dump, map, ADC1_TP_LOW) == 0 {
-        return false;
-    }
-    if raw(dump, map, ADC2_TP_LOW) == 0 {
-        return false;
-    }
-    if raw(dump, map, ADC1_TP_HIGH) == 0 {
-        return false;
-    }
-    raw(dump, map, ADC2_TP_HIGH) != 0
-}
-
-// Where a unit's a and b come from.
+// Where a unit's a and b come from. In the crate: `check_efuse_tp`.
 fn source(dump: &[u32], map: &[u8], unit: u8) -> Source
     requires { ⌜ Mapped eight (now dump) (now map) ⌝ }
     ensures { λ r. ⌜ r ≡ sourceOf (now (dump .entry)) (now (map .entry)) unit ⌝ }
 {
-    if check_efuse_tp(dump, map) {
-        let low = raw(dump, map, code::by_unit(unit, ADC1_TP_LOW, ADC2_TP_LOW));
-        let high = raw(dump, map, code::by_unit(unit, ADC1_TP_HIGH, ADC2_TP_HIGH));
-        return Source::TwoPoint(low, high);
+    if raw(dump, map, BLK3_PART_RESERVE) != 1 {
+        return Source::Vref;
     }
-    Source::Vref
+    let low1 = raw(dump, map, ADC1_TP_LOW);
+    if low1 == 0 {
+        return Source::Vref;
+    }
+    let low2 = raw(dump, map, ADC2_TP_LOW);
+    if low2 == 0 {
+        return Source::Vref;
+    }
+    let high1 = raw(dump, map, ADC1_TP_HIGH);
+    if high1 == 0 {
+        return Source::Vref;
+    }
+    let high2 = raw(dump, map, ADC2_TP_HIGH);
+    if high2 == 0 {
+        return Source::Vref;
+    }
+    Source::TwoPoint(
+        code::by_unit(unit, low1, low2),
+        code::by_unit(unit, high1, high2),
+    )
 }
 
 // What the record of a unit at an attenuation is made from, where nothing is refused.

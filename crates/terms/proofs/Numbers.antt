@@ -15,4 +15,5 @@ module _ (P : ℕ → Type 0) where
   pub first-gives : (numbers : ℕ → ℕ) → P 0 → ((k : ℕ) → P (numbers k)) → (from n : ℕ) → P (firstOf numbers from n)
   unfolding firstOf
   first-gives numbers none each from zero = none
-  first-gives numbers none each from (suc n) = orElse-gives (numbers from) (each from) (first-gives numbers none each (suc from) n)
+  first-gives numbers none each from (suc n) =
+      orElse-gives (numbers from) (each from) (first-gives numbers none each (suc from) n)

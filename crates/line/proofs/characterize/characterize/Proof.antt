@@ -1,8 +1,8 @@
 -- `line::characterize` meets its contract: in each arm the source is known, and a unit's points are far enough apart.
 -- Assumes nothing.
-use mathlib.Core.Path.{_≡_, sym, _∙_}
+use mathlib.Core.Path.{_∙_}
 use borrow.Author.Needs.{needs}
-use Rattle.line.specs.Characterize.{coefficientsOf, sourceRefusal, topRefusal, topOf}
+use Rattle.line.specs.Characterize.{coefficientsOf, sourceRefusal}
 use Rattle.line.proofs.Codes.{points-apart}
 use Rattle.line.proofs.Coefficients.{in-bits}
 use Rattle.line.proofs.characterize.characterize.Statement.{statement}

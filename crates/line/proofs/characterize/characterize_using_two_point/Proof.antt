@@ -1,5 +1,4 @@
 -- `line::characterize_using_two_point` meets its contract: the table's entries are those of the definition. Assumes nothing.
-use native.Mathlib.Omega.{arith}
 use borrow.Author.Needs.{needs}
 use Rattle.line.proofs.Coefficients.{tp-most}
 use Rattle.line.proofs.characterize.characterize_using_two_point.Statement.{statement}

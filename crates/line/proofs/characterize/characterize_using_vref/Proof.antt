@@ -2,7 +2,6 @@
 use native.Mathlib.Nat.{mul-le-mul}
 use native.Mathlib.Omega.{arith}
 use borrow.Author.Needs.{needs}
-use Rattle.line.specs.declared.characterize.Coefficients.{Coefficients}
 use Rattle.line.proofs.Coefficients.{vref-most}
 use Rattle.line.proofs.characterize.characterize_using_vref.Statement.{statement}
 use Rattle.line.proofs.characterize.characterize_using_vref.Tie as tie

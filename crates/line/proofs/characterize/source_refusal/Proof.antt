@@ -1,6 +1,5 @@
 -- `line::source_refusal` meets its contract: in each arm the source is known, and a unit's points are far enough apart.
 -- Assumes nothing.
-use mathlib.Core.Path.{sym, _∙_}
 use borrow.Author.Needs.{needs}
 use Rattle.line.specs.Characterize.{sourceRefusal}
 use Rattle.line.proofs.Codes.{points-apart}
@@ -30,7 +29,13 @@ returns : tie.Need-returns
 unfolding sourceRefusal
 returns c =
     let p = c .before .before .before in
-    rw (c .top-refusal .ensures, c .before .top .ensures, p .efuse-tp-low .ensures, c .before .before .efuse-tp-high .ensures, p .before .before .source .given .1)
+    rw (
+      c .top-refusal .ensures,
+      c .before .top .ensures,
+      c .before .before .efuse-tp-high .ensures,
+      p .efuse-tp-low .ensures,
+      p .before .before .source .given .1,
+    )
 
 returns-2 : tie.Need-returns-2
 unfolding sourceRefusal

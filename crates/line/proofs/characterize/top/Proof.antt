@@ -8,9 +8,6 @@ use Rattle.line.proofs.characterize.top.Tie as tie
 sub-delta-x : tie.Need-sub-delta-x
 sub-delta-x c = search needs
 
-sub-delta-v : tie.Need-sub-delta-v
-sub-delta-v c = search needs
-
 mul-result : tie.Need-mul-result
 mul-result c = search needs
 
@@ -25,4 +22,4 @@ unfolding topOf
 returns c = refl
 
 pub top-spec : {M : Type 1} → statement M
-top-spec = tie.close (tie.spec sub-delta-x sub-delta-v mul-result add-result div-result returns)
+top-spec = tie.close (tie.spec sub-delta-x mul-result add-result div-result returns)

@@ -8,9 +8,6 @@ use Rattle.line.proofs.characterize.two_point_a.Tie as tie
 sub-delta-x : tie.Need-sub-delta-x
 sub-delta-x c = search needs
 
-sub-delta-v : tie.Need-sub-delta-v
-sub-delta-v c = search needs
-
 mul-result : tie.Need-mul-result
 mul-result c = search needs
 
@@ -25,5 +22,4 @@ unfolding twoPointA
 returns c = refl
 
 pub two-point-a-spec : {M : Type 1} → statement M
-two-point-a-spec =
-    tie.close (tie.spec sub-delta-x sub-delta-v mul-result add-result div-result returns)
+two-point-a-spec = tie.close (tie.spec sub-delta-x mul-result add-result div-result returns)

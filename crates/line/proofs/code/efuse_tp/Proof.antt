@@ -21,7 +21,9 @@ rem-result : tie.Need-rem-result
 rem-result c = let p = c .before .before in sign-some (p .before .pre) (p .sign-bit .ensures)
 
 mul-result-2 : tie.Need-mul-result-2
-mul-result-2 c = let p = c .before .before in omega (arith, cut-room (p .before .pre) (p .sign-bit .ensures) (c .wrapping-sub-u32 .result))
+mul-result-2 c =
+    let p = c .before .before in
+    omega (arith, cut-room (p .before .pre) (p .sign-bit .ensures) (c .wrapping-sub-u32 .result))
 
 sub-result : tie.Need-sub-result
 sub-result c = let p = c .before .before in cut-room (p .before .pre) (p .sign-bit .ensures) _

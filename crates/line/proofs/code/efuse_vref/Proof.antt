@@ -1,5 +1,4 @@
 -- `line::efuse_vref` meets its contract: the sign's test says which case of the code holds. Assumes nothing.
-use native.Mathlib.Omega.{arith}
 use borrow.Author.Needs.{needs}
 use Rattle.line.proofs.Codes.{vref-plus, vref-minus}
 use Rattle.line.proofs.code.efuse_vref.Statement.{statement}
@@ -21,10 +20,10 @@ sub-result : tie.Need-sub-result
 sub-result c = search needs
 
 returns : tie.Need-returns
-returns c = vref-plus _ (omega arith)
+returns c = vref-plus (c .before .before .pre) (c .before .sign-bit .ensures) (c .if1 .taken)
 
 returns-2 : tie.Need-returns-2
-returns-2 c = rw (c .before .sign-bit .ensures) (vref-minus _ (c .before .before .pre) (omega arith))
+returns-2 c = vref-minus (c .before .before .pre) (c .before .sign-bit .ensures) (c .if1 .left)
 
 pub efuse-vref-spec : {M : Type 1} → statement M
 efuse-vref-spec =

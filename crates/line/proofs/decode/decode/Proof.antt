@@ -1,17 +1,19 @@
--- `line::decode` meets its contract: at each `return` the refusals so far say which case of the definition holds. Assumes nothing.
+-- `line::decode` meets its contract: at each `return` the refusals so far say which case of the definition holds.
+-- Assumes nothing.
 use mathlib.Core.Path.{_≡_, sym, _∙_}
 use denote.Ref.{now}
 use borrow.Author.Needs.{needs}
 use Rattle.efuse.specs.Field.{eight}
 use Rattle.line.specs.Decode.{foundOf, decodedRecord, inputRefusal, decodeRefusal}
-use Rattle.line.proofs.Decoding.{vref-fits, source-in-bits, input-good, decode-input, decode-source, decode-good}
-use Rattle.line.proofs.Decoding.{decode-refused, decode-record}
+use Rattle.line.proofs.Sources.{vref-fits, source-in-bits}
+use Rattle.line.proofs.Decoding.{input-good, decode-input, decode-source, decode-refused, decode-record}
 use Rattle.line.proofs.decode.decode.Statement.{statement}
 use Rattle.line.proofs.decode.decode.Tie as tie
 
 -- past the first test nothing handed in is refused
 accepted : (c : tie.Else1)
-    → let a = c .before .before .before .before .args in inputRefusal eight (now (a .dump)) (now (a .map)) (a .unit) (a .atten) ≡ 0
+    → let a = c .before .before .before .before .args in
+    inputRefusal eight (now (a .dump)) (now (a .map)) (a .unit) (a .atten) ≡ 0
 accepted c = sym (c .before .input-refusal .ensures) ∙ c .if1 .left
 
 -- so that the source's number is the decoding's
@@ -31,7 +33,8 @@ source-requires : tie.Need-source-requires
 source-requires c κs = input-good _ _ _ _ _ (accepted c) .mapped
 
 source-refusal-requires : tie.Need-source-refusal-requires
-source-refusal-requires c κs = rw (c .source .ensures) (source-in-bits _ _ _ (input-good _ _ _ _ _ (accepted (c .before)) .mapped))
+source-refusal-requires c κs =
+    rw (c .source .ensures) (source-in-bits _ _ _ (input-good _ _ _ _ _ (accepted (c .before)) .mapped))
 
 returns-2 : tie.Need-returns-2
 returns-2 c = decode-refused _ _ _ _ _ (number (c .before)) (c .if2 .taken)
@@ -42,7 +45,7 @@ find-requires c κs = (sym (number (c .before)) ∙ c .if2 .left, c .before .bef
 record-from-requires : tie.Need-record-from-requires
 unfolding foundOf
 record-from-requires c κs =
-    rw (c .find .ensures) (vref-fits (input-good _ _ _ _ _ (accepted (c .before .before .before .before)) .mapped))
+    rw (c .find .ensures) (vref-fits _ _ (input-good _ _ _ _ _ (accepted (c .before .before .before .before)) .mapped))
 
 returns-3 : tie.Need-returns-3
 unfolding decodedRecord

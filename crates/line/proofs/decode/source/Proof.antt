@@ -1,49 +1,87 @@
--- `line::source` meets its contract: the test says which source it is, and the ids of a unit's codes are the map's. Assumes nothing.
-use mathlib.Core.Path.{sym, _∙_}
+-- `line::source` meets its contract: at each `return` the fields read so far say which source it is. Assumes nothing.
 use borrow.Author.Needs.{needs}
-use Rattle.line.specs.Decode.{sourceOf}
-use Rattle.line.proofs.Decoding.{unit-ids, source-two-point, source-vref}
+use Rattle.line.proofs.Sources.{no-reserve, no-low1, no-low2, no-high1, no-high2, all-codes}
 use Rattle.line.proofs.decode.source.Statement.{statement}
 use Rattle.line.proofs.decode.source.Tie as tie
 
-check-efuse-tp-requires : tie.Need-check-efuse-tp-requires
-check-efuse-tp-requires c κs = search needs
+raw-requires : tie.Need-raw-requires
+raw-requires c κs = search needs
+
+returns : tie.Need-returns
+returns c = no-reserve _ _ _ (c .before .raw .ensures) (c .if1 .taken)
+
+raw-requires-2 : tie.Need-raw-requires-2
+raw-requires-2 c κs = search needs
+
+returns-2 : tie.Need-returns-2
+returns-2 c =
+    let p = c .before .before in
+    no-low1 _ _ _ (p .before .raw .ensures) (p .if1 .left) (c .before .raw2 .ensures) (c .if2 .taken)
+
+raw-requires-3 : tie.Need-raw-requires-3
+raw-requires-3 c κs = search needs
+
+returns-3 : tie.Need-returns-3
+returns-3 c =
+    let p = c .before .before in
+    let q = p .before .before in
+    no-low2 _ _ _ (q .before .raw .ensures) (q .if1 .left) (p .before .raw2 .ensures) (p .if2 .left) (c .before .raw3 .ensures)
+    (c .if3 .taken)
+
+raw-requires-4 : tie.Need-raw-requires-4
+raw-requires-4 c κs = search needs
+
+returns-4 : tie.Need-returns-4
+returns-4 c =
+    let p = c .before .before in
+    let q = p .before .before in
+    let s = q .before .before in
+    no-high1 _ _ _ (s .before .raw .ensures) (s .if1 .left) (q .before .raw2 .ensures) (q .if2 .left) (p .before .raw3 .ensures)
+    (p .if3 .left) (c .before .raw4 .ensures) (c .if4 .taken)
+
+raw-requires-5 : tie.Need-raw-requires-5
+raw-requires-5 c κs = search needs
+
+returns-5 : tie.Need-returns-5
+returns-5 c =
+    let p = c .before .before in
+    let q = p .before .before in
+    let s = q .before .before in
+    let t = s .before .before in
+    no-high2 _ _ _ (t .before .raw .ensures) (t .if1 .left) (s .before .raw2 .ensures) (s .if2 .left) (q .before .raw3 .ensures)
+    (q .if3 .left) (p .before .raw4 .ensures) (p .if4 .left) (c .before .raw5 .ensures) (c .if5 .taken)
 
 by-unit-requires : tie.Need-by-unit-requires
 by-unit-requires c κs = search needs
 
-raw-requires : tie.Need-raw-requires
-raw-requires c κs =
-    let p = c .before .before .before .before .before in
-    let id = unit-ids (p .args .unit) .0 in
-    rw (c .by-unit .ensures) (p .pre, id .0, id .1)
-
 by-unit-requires-2 : tie.Need-by-unit-requires-2
 by-unit-requires-2 c κs = search needs
 
-raw-requires-2 : tie.Need-raw-requires-2
-raw-requires-2 c κs =
-    let p = c .before .before .before .before .before .before .before in
-    let id = unit-ids (p .args .unit) .1 in
-    rw (c .by-unit2 .ensures) (p .pre, id .0, id .1)
-
-returns : tie.Need-returns
-returns c =
-    let p = c .before .before in
-    rw (p .raw .ensures, p .before .by-unit .ensures, c .raw2 .ensures, c .before .by-unit2 .ensures)
-    (sym (source-two-point _ _ _ (sym (p .before .before .before .check-efuse-tp .ensures) ∙ p .before .before .if1 .taken)))
-
-returns-2 : tie.Need-returns-2
-returns-2 c = sym (source-vref _ _ _ (sym (c .before .check-efuse-tp .ensures) ∙ c .if1 .left))
+returns-6 : tie.Need-returns-6
+returns-6 c =
+    let o = c .before .before in
+    let p = o .before .before in
+    let q = p .before .before in
+    let s = q .before .before in
+    let t = s .before .before in
+    all-codes _ _ _ (t .before .raw .ensures) (t .if1 .left) (s .before .raw2 .ensures) (s .if2 .left) (q .before .raw3 .ensures)
+    (q .if3 .left) (p .before .raw4 .ensures) (p .if4 .left) (o .before .raw5 .ensures) (o .if5 .left) (c .before .by-unit .ensures)
+    (c .by-unit2 .ensures)
 
 pub source-spec : {M : Type 1} → statement M
 source-spec =
     tie.close
     (tie.spec
-    check-efuse-tp-requires
-    by-unit-requires
     raw-requires
-    by-unit-requires-2
-    raw-requires-2
     returns
-    returns-2)
+    raw-requires-2
+    returns-2
+    raw-requires-3
+    returns-3
+    raw-requires-4
+    returns-4
+    raw-requires-5
+    returns-5
+    by-unit-requires
+    by-unit-requires-2
+    returns-6)
