@@ -3,6 +3,7 @@
 use crate::convert::COEFF_A_ROUND;
 use crate::convert::COEFF_A_SCALE;
 use crate::convert::LUT_HIGH_THRESH;
+use crate::convert::beyond_line;
 use crate::convert::interpolate_two_points;
 use crate::lookup::LUT_LOW_THRESH;
 use crate::lookup::LUT_SCALE;
@@ -23,7 +24,6 @@ ghost use lib.ListN.{length};
 ghost use Rattle.terms.specs.Refuse.{outcomeOf};
 ghost use Rattle.terms.specs.Table.{tab};
 ghost use Rattle.line.specs.Record.{usesLookup, recordRefusal};
-ghost use Rattle.line.specs.Lookup.{lookupVoltage};
 ghost use Rattle.line.specs.Convert.{lineVoltage, blendOf};
 ghost use Rattle.line.specs.Fill.{fillRefusal, answersFrom, filled};
 ghost use Rattle.line.specs.Walk.{along, lineSlope, Blended, InStep, segmentLeft};
@@ -86,34 +86,17 @@ fn fill_line(cal: LineRecord, first: u32, out: &mut [u16])
     ramp(line_slope(cal, first), COEFF_A_SCALE, out);
 }
 
-// The lookup's voltages, at most up to the next point.
-fn fill_lut(cal: LineRecord, first: u32, out: &mut [u16])
-    requires { ⌜ InStep cal first (length (now out)) ⌝ }
-    ensures { λ r. ⌜ now (out .exit) ≡ tab (λ k. lookupVoltage cal (first + k)) (length (now (out .entry))) ⌝ }
-{
-    ramp(lut_slope(cal, first), LUT_SCALE, out);
-}
-
-// The blend's answers, at most up to 2944.
-fn fill_blend(cal: LineRecord, first: u32, out: &mut [u16])
-    requires { ⌜ (usesLookup cal ≡ true) × InStep cal first (length (now out)) × (first < 2944) ⌝ }
-    ensures { λ r. ⌜ now (out .exit) ≡ answersFrom cal first (length (now (out .entry))) ⌝ }
-{
-    let line = line_slope(cal, first);
-    let lut = lut_slope(cal, first);
-    blend_ramps(line, lut, first - LUT_LOW_THRESH, out);
-}
-
 // The answers from 2880 on, where the lookup is used, at most up to the next point.
 fn fill_step(cal: LineRecord, first: u32, out: &mut [u16])
     requires { ⌜ (usesLookup cal ≡ true) × InStep cal first (length (now out)) ⌝ }
     ensures { λ r. ⌜ now (out .exit) ≡ answersFrom cal first (length (now (out .entry))) ⌝ }
 {
+    let lut = lut_slope(cal, first);
     if first < LUT_HIGH_THRESH {
-        fill_blend(cal, first, out);
+        blend_ramps(line_slope(cal, first), lut, first - LUT_LOW_THRESH, out);
         return;
     }
-    fill_lut(cal, first, out);
+    ramp(lut, LUT_SCALE, out);
 }
 
 // How many counts from a given one on are in its segment. Points stand at multiples of 64.
@@ -135,11 +118,7 @@ fn fill_segment(cal: LineRecord, first: u32, out: &mut [u16])
     requires { ⌜ (recordRefusal cal ≡ 0) × (first ≤ 4095) × (length (now out) ≤ segmentLeft cal first) ⌝ }
     ensures { λ r. ⌜ now (out .exit) ≡ answersFrom cal first (length (now (out .entry))) ⌝ }
 {
-    if first < LUT_LOW_THRESH {
-        fill_line(cal, first, out);
-        return;
-    }
-    if uses_lookup(cal) {
+    if beyond_line(cal, first) {
         fill_step(cal, first, out);
         return;
     }

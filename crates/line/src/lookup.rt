@@ -2,7 +2,7 @@
 use crate::record::LineRecord;
 ghost use mathlib.Core.Path.{_≡_};
 ghost use mathlib.Core.List.{_++_};
-ghost use Prim.Native.Nat.{_≤_, _<_};
+ghost use Prim.Native.Nat.{_+_, _*_, _-_, _≤_, _<_};
 ghost use lib.ListN.{getD};
 ghost use Rattle.line.specs.Record.{recordRefusal};
 ghost use Rattle.line.specs.Lookup.{lutAdc1Low, lutAdc1High, lutAdc2Low, lutAdc2High, lookupVoltage};
@@ -93,6 +93,27 @@ fn point(unit: u8, vref: u32, k: u32) -> u32
     LUT_VREF_HIGH * low - LUT_VREF_LOW * high + vref * (high - low)
 }
 
+// `LUT_SCALE` times the voltage between two points, rounding included, where place of the 64 counts between them are gone.
+fn lut_sum(here: u32, there: u32, place: u32) -> u32
+    requires { ⌜ (here ≤ 642545) × (there ≤ 642545) × (place ≤ 64) ⌝ }
+    ensures { λ r. ⌜ r ≡ here * (64 - place) + there * place + 6400 ⌝ }
+{
+    here * (LUT_STEP - place) + there * place + LUT_ROUND
+}
+
+// The lookup's millivolts at a count. It doesn't go by `lut_slope`, so that it is compiled into its one caller.
+pub(crate) fn calculate_voltage_lut(cal: LineRecord, raw: u32) -> u32
+    requires { ⌜ (recordRefusal cal ≡ 0) × (2880 ≤ raw) × (raw ≤ 4095) ⌝ }
+    ensures { λ r. ⌜ r ≡ lookupVoltage cal raw ⌝ }
+{
+    let unit = cal.unit;
+    let vref = cal.vref;
+    let past = raw - LUT_LOW_THRESH;
+    let here = point(unit, vref, past / LUT_STEP);
+    let there = point(unit, vref, past / LUT_STEP + 1);
+    lut_sum(here, there, past % LUT_STEP) / LUT_SCALE
+}
+
 // The lookup's slope from a count up to the next point; its divisor is `LUT_SCALE`.
 pub(crate) fn lut_slope(cal: LineRecord, raw: u32) -> Slope
     requires { ⌜ (recordRefusal cal ≡ 0) × (2880 ≤ raw) × (raw ≤ 4095) ⌝ }
@@ -101,21 +122,10 @@ pub(crate) fn lut_slope(cal: LineRecord, raw: u32) -> Slope
     let unit = cal.unit;
     let vref = cal.vref;
     let past = raw - LUT_LOW_THRESH;
-    let i = past / LUT_STEP;
-    let place = past % LUT_STEP;
-    let here = point(unit, vref, i);
-    let there = point(unit, vref, i + 1);
+    let here = point(unit, vref, past / LUT_STEP);
+    let there = point(unit, vref, past / LUT_STEP + 1);
     Slope {
-        sum: here * (LUT_STEP - place) + there * place + LUT_ROUND,
+        sum: lut_sum(here, there, past % LUT_STEP),
         rise: there - here,
     }
-}
-
-// The lookup's millivolts at a count.
-pub(crate) fn calculate_voltage_lut(cal: LineRecord, raw: u32) -> u32
-    requires { ⌜ (recordRefusal cal ≡ 0) × (2880 ≤ raw) × (raw ≤ 4095) ⌝ }
-    ensures { λ r. ⌜ r ≡ lookupVoltage cal raw ⌝ }
-{
-    let slope = lut_slope(cal, raw);
-    slope.sum / LUT_SCALE
 }
