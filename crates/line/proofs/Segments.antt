@@ -9,7 +9,7 @@ use Rattle.terms.specs.Table.{tab}
 use Rattle.terms.proofs.Order.{either, whether}
 use Rattle.terms.proofs.Tab.{tab-same}
 use Rattle.line.specs.declared.record.LineRecord.{LineRecord}
-use Rattle.line.specs.declared.lookup.Slope.{Slope}
+use Rattle.line.specs.declared.ramp.Slope.{Slope}
 use Rattle.line.specs.Record.{usesLookup, recordRefusal}
 use Rattle.line.specs.Convert.{lineVoltage, blendOf, beyondLine}
 use Rattle.line.specs.Fill.{answersFrom}

@@ -9,7 +9,7 @@ use lib.Signed.{quotZ}
 use Rattle.terms.proofs.Difference.{less, plus, times, times-left, natural}
 use Rattle.terms.proofs.Order.{either}
 use Rattle.line.specs.declared.record.LineRecord.{LineRecord}
-use Rattle.line.specs.declared.lookup.Slope.{Slope}
+use Rattle.line.specs.declared.ramp.Slope.{Slope}
 use Rattle.line.specs.Record.{recordRefusal}
 use Rattle.line.specs.Lookup.{lowAt, highAt, lookupNumerator, lookupVoltage}
 use Rattle.line.specs.Walk.{pointAt, along, lookupSum, LutSlope}

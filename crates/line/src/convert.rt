@@ -1,6 +1,6 @@
 // Converting a count to millivolts. In the crate: `adc_val`.
+use crate::lookup::LUT_ADC_STEP_SIZE;
 use crate::lookup::LUT_LOW_THRESH;
-use crate::lookup::LUT_STEP;
 use crate::lookup::calculate_voltage_lut;
 use crate::record::LineRecord;
 use crate::record::record_refusal;
@@ -44,7 +44,7 @@ pub(crate) fn interpolate_two_points(y1: u32, y2: u32, x: u32) -> u32
     requires { ⌜ (y1 ≤ 65535) × (y2 ≤ 65535) × (x ≤ 64) ⌝ }
     ensures { λ r. ⌜ r ≡ blendOf y1 y2 x ⌝ }
 {
-    (y1 * LUT_STEP + y2 * x - y1 * x + LUT_STEP / 2) / LUT_STEP
+    (y1 * LUT_ADC_STEP_SIZE + y2 * x - y1 * x + LUT_ADC_STEP_SIZE / 2) / LUT_ADC_STEP_SIZE
 }
 
 // The answer past the line: blend or lookup.

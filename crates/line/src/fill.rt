@@ -4,12 +4,13 @@ use crate::convert::COEFF_A_ROUND;
 use crate::convert::COEFF_A_SCALE;
 use crate::convert::LUT_HIGH_THRESH;
 use crate::convert::beyond_line;
-use crate::convert::interpolate_two_points;
+use crate::lookup::LUT_ADC_STEP_SIZE;
 use crate::lookup::LUT_LOW_THRESH;
 use crate::lookup::LUT_SCALE;
-use crate::lookup::LUT_STEP;
-use crate::lookup::Slope;
 use crate::lookup::lut_slope;
+use crate::ramp::Slope;
+use crate::ramp::blend_ramps;
+use crate::ramp::ramp;
 use crate::record::LineRecord;
 use crate::record::record_refusal;
 use crate::record::uses_lookup;
@@ -19,51 +20,16 @@ use terms::refusal::Refusal;
 use terms::unit::Count;
 ghost use mathlib.Core.Path.{_≡_};
 ghost use mathlib.Core.Bool.{true};
-ghost use Prim.Native.Nat.{_+_, _*_, _/_, _≤_, _<_, min};
+ghost use Prim.Native.Nat.{_+_, _≤_, min};
 ghost use lib.ListN.{length};
 ghost use Rattle.terms.specs.Refuse.{outcomeOf};
 ghost use Rattle.terms.specs.Table.{tab};
 ghost use Rattle.line.specs.Record.{usesLookup, recordRefusal};
-ghost use Rattle.line.specs.Convert.{lineVoltage, blendOf};
+ghost use Rattle.line.specs.Convert.{lineVoltage};
 ghost use Rattle.line.specs.Fill.{fillRefusal, answersFrom, filled};
-ghost use Rattle.line.specs.Walk.{along, lineSlope, Blended, InStep, segmentLeft};
+ghost use Rattle.line.specs.Walk.{lineSlope, InStep, segmentLeft};
 
 const COUNTS: u32 = 4096;
-
-// Whole quotients of a sum that grows by one step a place.
-fn ramp(slope: Slope, divisor: u32, out: &mut [u16])
-    requires { ⌜ (0 < divisor) × (divisor ≤ 65536) × (along slope (length (now out)) < 65536 * divisor) ⌝ }
-    ensures { λ r. ⌜ now (out .exit) ≡ tab (λ k. along slope k / divisor) (length (now (out .entry))) ⌝ }
-{
-    let rise = slope.rise;
-    let mut sum = slope.sum;
-    let mut i = 0;
-    while i < out.len() {
-        out[i] = (sum / divisor) as u16;
-        sum += rise;
-        i += 1;
-    }
-}
-
-// The blend of two such sums, of which x counts are gone at the first place.
-fn blend_ramps(line: Slope, lut: Slope, x: u32, out: &mut [u16])
-    requires { ⌜ Blended line lut x (length (now out)) ⌝ }
-    ensures { λ r. ⌜ now (out .exit) ≡ tab (λ k. blendOf (along line k / 65536) (along lut k / 12800) (x + k)) (length (now (out .entry))) ⌝ }
-{
-    let line_rise = line.rise;
-    let lut_rise = lut.rise;
-    let mut line_sum = line.sum;
-    let mut lut_sum = lut.sum;
-    let mut gone = x;
-    let mut i = 0;
-    while i < out.len() {
-        out[i] = interpolate_two_points(line_sum / COEFF_A_SCALE, lut_sum / LUT_SCALE, gone) as u16;
-        line_sum += line_rise;
-        lut_sum += lut_rise;
-        gone += 1;
-        i += 1;
-    }
-}
 
 // The line's slope from a count on; its divisor is `COEFF_A_SCALE`.
 fn line_slope(cal: LineRecord, raw: u32) -> Slope
@@ -108,7 +74,7 @@ fn segment_left(cal: LineRecord, count: u32) -> u32
         if count < LUT_LOW_THRESH {
             return LUT_LOW_THRESH - count;
         }
-        return LUT_STEP - count % LUT_STEP;
+        return LUT_ADC_STEP_SIZE - count % LUT_ADC_STEP_SIZE;
     }
     COUNTS - count
 }

@@ -1,5 +1,6 @@
 // ESP32 line calibration: the line record, and what it is decoded from and converts.
 pub mod convert;
 pub mod fill;
-pub mod lookup;
+mod lookup;
+mod ramp;
 pub mod record;

@@ -11,8 +11,8 @@ use Rattle.line.specs.Convert.{blendOf}
 use Rattle.line.specs.Walk.{along}
 use Rattle.line.proofs.Answers.{blend-most}
 use Rattle.line.proofs.Ramps.{ramp-next, ramp-room}
-use Rattle.line.proofs.fill.blend_ramps.Statement.{statement}
-use Rattle.line.proofs.fill.blend_ramps.Tie as tie
+use Rattle.line.proofs.ramp.blend_ramps.Statement.{statement}
+use Rattle.line.proofs.ramp.blend_ramps.Tie as tie
 
 abbrev Inv-loop : tie.InvT-loop
 Inv-loop x out₀ line-rise lut-rise line-sum₀ lut-sum₀ gone₀ i₀ out line-sum lut-sum gone i =
