@@ -1,7 +1,6 @@
--- Laws of the answer: which of line, blend and lookup it is, that it is at most 12,285, and which case a conversion is.
--- Assumes nothing.
-use mathlib.Core.Path.{_≡_, refl, sym, _∙_, ap}
-use mathlib.Core.Bool.{Bool, true, false, _&&_}
+-- Laws of the answer: which of line, blend and lookup it is, and that it is at most 12,285. Assumes nothing.
+use mathlib.Core.Path.{_≡_, _∙_}
+use mathlib.Core.Bool.{true, false}
 use Prim.Native.Nat.{ℕ, _+_, _*_, _-_, _≤_, _<_}
 use native.Mathlib.Nat.{mul-sub, mul-le-mul, mul-le-mul-left, mul-le-mul-right}
 use native.Mathlib.Omega.{arith}
@@ -9,41 +8,33 @@ use borrow.Author.Tests.{lt-leb, le-leb, leb-true}
 use Rattle.terms.proofs.Order.{either, whether}
 use Rattle.terms.proofs.Refusals.{and-true, and-false}
 use Rattle.line.specs.declared.record.LineRecord.{LineRecord}
-use Rattle.line.specs.Record.{usesLookup, recordRefusal}
+use Rattle.line.specs.Record.{usesLookup}
 use Rattle.line.specs.Lookup.{lookupVoltage}
 use Rattle.line.specs.Convert.{lineVoltage, blendOf, beyondLine, answerAt}
 use Rattle.line.proofs.Records.{InRanges}
 use Rattle.line.proofs.Sums.{voltage-is, sum-most}
 
--- the blend is a mean of its two ends
+-- the blend is a mean of its two ends, and so within what they are
 module _ (y1 y2 x : ℕ) (h : x ≤ 64) where
   pub blend-room : y1 * x ≤ y1 * 64
   blend-room = mul-le-mul-left y1 h
 
-  pub blend-most : (m : ℕ) → y1 ≤ m → y2 ≤ m → blendOf y1 y2 x ≤ m
+  pub blend-within : (lo hi : ℕ) → (lo ≤ y1) × (y1 ≤ hi) → (lo ≤ y2) × (y2 ≤ hi) → (lo ≤ blendOf y1 y2 x) × (blendOf y1 y2 x ≤ hi)
   unfolding blendOf
-  blend-most m p q =
+  blend-within lo hi p q =
+      let w : ℕ = 64 - x in
       omega (
         arith,
         blend-room,
         mul-sub y1 64 x,
-        mul-sub m 64 x,
-        mul-le-mul-left m h,
-        mul-le-mul-right (64 - x) p,
-        mul-le-mul-right x q,
-      )
-
-  pub blend-least : (m : ℕ) → m ≤ y1 → m ≤ y2 → m ≤ blendOf y1 y2 x
-  unfolding blendOf
-  blend-least m p q =
-      omega (
-        arith,
-        blend-room,
-        mul-sub y1 64 x,
-        mul-sub m 64 x,
-        mul-le-mul-left m h,
-        mul-le-mul-right (64 - x) p,
-        mul-le-mul-right x q,
+        mul-sub lo 64 x,
+        mul-sub hi 64 x,
+        mul-le-mul-left lo h,
+        mul-le-mul-left hi h,
+        mul-le-mul-right w (p .0),
+        mul-le-mul-right w (p .1),
+        mul-le-mul-right x (q .0),
+        mul-le-mul-right x (q .1),
       )
 
 -- it starts at the first and ends at the second
@@ -128,5 +119,5 @@ module _ (r : LineRecord) (ranges : InRanges r) (raw : ℕ) where
   pub answer-most : raw ≤ 4095 → answerAt r raw ≤ 12285
   answer-most h =
       by-region (λ v. v ≤ 12285) (line-most h)
-      (λ l u. blend-most _ _ (raw - 2880) (omega arith) 12285 (line-most h) (lookup-most l h))
+      (λ l u. blend-within _ _ (raw - 2880) (omega arith) 0 12285 (omega arith, line-most h) (omega arith, lookup-most l h) .1)
       (λ u. lookup-most (omega arith) h)

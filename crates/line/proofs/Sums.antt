@@ -1,8 +1,8 @@
 -- The lookup's numerator is the crate's signed sum regrouped: a mean of the two points around the count, weighed by its place between
 -- them. So it is never negative, it is small, and from one point to the next it grows by one step a count. Assumes nothing.
 use mathlib.Core.Path.{_≡_, refl, sym, _∙_, ap}
-use Prim.Native.Nat.{ℕ, zero, suc, _+_, _*_, _-_, _/_, _%_, _≤_, _<_, min}
-use native.Mathlib.Nat.{add-zero, mul-zero, mul-sub, mul-le-mul-left, mul-le-mul-right}
+use Prim.Native.Nat.{ℕ, zero, suc, _+_, _*_, _-_, _/_, _%_, _≤_, min}
+use native.Mathlib.Nat.{add-zero, mul-sub, mul-le-mul-left, mul-le-mul-right}
 use native.Mathlib.Omega.{arith}
 use lib.IntN.{ℤ, pos, negsuc, negℤ, natAbs, _+ℤ_, _-ℤ_, _*ℤ_}
 use lib.Signed.{quotZ}
@@ -10,8 +10,7 @@ use Rattle.terms.proofs.Difference.{less, plus, times, times-left, natural}
 use Rattle.terms.proofs.Order.{either}
 use Rattle.line.specs.declared.record.LineRecord.{LineRecord}
 use Rattle.line.specs.declared.ramp.Slope.{Slope}
-use Rattle.line.specs.Record.{recordRefusal}
-use Rattle.line.specs.Lookup.{lowAt, highAt, lookupNumerator, lookupVoltage}
+use Rattle.line.specs.Lookup.{lookupNumerator, lookupVoltage}
 use Rattle.line.specs.Walk.{pointAt, along, lookupSum, LutSlope}
 use Rattle.line.proofs.Points.{point-is, point-most, points-rise}
 use Rattle.line.proofs.Records.{InRanges}

@@ -1,13 +1,11 @@
 -- `line::fill_answers` meets its contract: at each turn the first `at` answers are written, and the turn adds those of one segment.
 -- Assumes nothing.
-use mathlib.Core.Path.{_≡_, _∙_, ap}
-use Prim.Native.Nat.{_+_, _-_, _≤_, _<_}
-use native.Mathlib.Nat.{add-assoc}
+use mathlib.Core.Path.{ap}
+use Prim.Native.Nat.{_+_, _-_, _≤_}
 use native.Mathlib.Omega.{arith}
 use lib.ListN.{length, length-take, length-drop}
-use denote.Ref.{now}
 use borrow.Author.Needs.{needs}
-use Rattle.terms.proofs.Parts.{lent-length, fill-part}
+use Rattle.terms.proofs.Parts.{fill-part}
 use Rattle.terms.proofs.Tab.{Filled, fill-start, fill-done}
 use Rattle.line.specs.Convert.{answerAt}
 use Rattle.line.proofs.Fills.{fill-exactly}

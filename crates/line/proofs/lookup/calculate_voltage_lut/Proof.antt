@@ -1,6 +1,5 @@
 -- `line::calculate_voltage_lut` meets its contract: the mean of the points around the count is the lookup's numerator.
 -- Assumes nothing.
-use mathlib.Core.Path.{_∙_}
 use native.Mathlib.Omega.{arith}
 use borrow.Author.Needs.{needs}
 use Rattle.line.proofs.Records.{record-sound}

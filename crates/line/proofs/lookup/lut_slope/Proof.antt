@@ -1,6 +1,5 @@
 -- `line::lut_slope` meets its contract: it has the points around the count, between which each count adds the same.
 -- Assumes nothing.
-use mathlib.Core.Path.{_∙_}
 use native.Mathlib.Omega.{arith}
 use borrow.Author.Needs.{needs}
 use Rattle.line.proofs.Records.{record-sound}
