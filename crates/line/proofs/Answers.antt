@@ -1,49 +1,40 @@
--- Laws of the answer: which of line, blend and lookup it is, that it is at most 12,285, and which case a conversion is.
--- Assumes nothing.
-use mathlib.Core.Path.{_≡_, refl, sym, _∙_, ap}
-use mathlib.Core.Bool.{Bool, true, false, not, _||_}
+-- Laws of the answer: which of line, blend and lookup it is, and that it is at most 12,285. Assumes nothing.
+use mathlib.Core.Path.{_≡_, _∙_}
+use mathlib.Core.Bool.{true, false}
 use Prim.Native.Nat.{ℕ, _+_, _*_, _-_, _≤_, _<_}
 use native.Mathlib.Nat.{mul-sub, mul-le-mul, mul-le-mul-left, mul-le-mul-right}
 use native.Mathlib.Omega.{arith}
-use lib.Dec.{ltb}
-use borrow.Author.Tests.{lt-ltb, le-ltb, lt-leb, le-leb, ltb-false}
+use borrow.Author.Tests.{lt-leb, le-leb, leb-true}
 use Rattle.terms.proofs.Order.{either, whether}
+use Rattle.terms.proofs.Refusals.{and-true, and-false}
 use Rattle.line.specs.declared.record.LineRecord.{LineRecord}
-use Rattle.line.specs.Record.{usesLookup, recordRefusal}
+use Rattle.line.specs.Record.{usesLookup}
 use Rattle.line.specs.Lookup.{lookupVoltage}
-use Rattle.line.specs.Convert.{lineVoltage, blendOf, answerAt}
+use Rattle.line.specs.Convert.{lineVoltage, blendOf, beyondLine, answerAt}
 use Rattle.line.proofs.Records.{InRanges}
 use Rattle.line.proofs.Sums.{voltage-is, sum-most}
 
--- the blend is a mean of its two ends
+-- the blend is a mean of its two ends, and so within what they are
 module _ (y1 y2 x : ℕ) (h : x ≤ 64) where
   pub blend-room : y1 * x ≤ y1 * 64
   blend-room = mul-le-mul-left y1 h
 
-  pub blend-most : (m : ℕ) → y1 ≤ m → y2 ≤ m → blendOf y1 y2 x ≤ m
+  pub blend-within : (lo hi : ℕ) → (lo ≤ y1) × (y1 ≤ hi) → (lo ≤ y2) × (y2 ≤ hi) → (lo ≤ blendOf y1 y2 x) × (blendOf y1 y2 x ≤ hi)
   unfolding blendOf
-  blend-most m p q =
+  blend-within lo hi p q =
+      let w : ℕ = 64 - x in
       omega (
         arith,
         blend-room,
         mul-sub y1 64 x,
-        mul-sub m 64 x,
-        mul-le-mul-left m h,
-        mul-le-mul-right (64 - x) p,
-        mul-le-mul-right x q,
-      )
-
-  pub blend-least : (m : ℕ) → m ≤ y1 → m ≤ y2 → m ≤ blendOf y1 y2 x
-  unfolding blendOf
-  blend-least m p q =
-      omega (
-        arith,
-        blend-room,
-        mul-sub y1 64 x,
-        mul-sub m 64 x,
-        mul-le-mul-left m h,
-        mul-le-mul-right (64 - x) p,
-        mul-le-mul-right x q,
+        mul-sub lo 64 x,
+        mul-sub hi 64 x,
+        mul-le-mul-left lo h,
+        mul-le-mul-left hi h,
+        mul-le-mul-right w (p .0),
+        mul-le-mul-right w (p .1),
+        mul-le-mul-right x (q .0),
+        mul-le-mul-right x (q .1),
       )
 
 -- it starts at the first and ends at the second
@@ -55,28 +46,38 @@ pub blend-last : (y1 y2 : ℕ) → blendOf y1 y2 64 ≡ y2
 unfolding blendOf
 blend-last y1 y2 = omega arith
 
-or-true : (t : Bool) → t || true ≡ true
-or-true true = refl
-or-true false = refl
+-- past the line the lookup is used, and the count is at least 2880
+module _ (r : LineRecord) (raw : ℕ) where
+  pub beyond-line : beyondLine r raw ≡ true → (usesLookup r ≡ true) × (2880 ≤ raw)
+  unfolding beyondLine
+  beyond-line e = let p = and-true (usesLookup r) _ e in (p .0, leb-true _ _ (p .1))
+
+  pub beyond-yes : usesLookup r ≡ true → 2880 ≤ raw → beyondLine r raw ≡ true
+  unfolding beyondLine
+  beyond-yes e h = simp (e, le-leb _ _ h)
+
+  pub beyond-plain : usesLookup r ≡ false → beyondLine r raw ≡ false
+  unfolding beyondLine
+  beyond-plain e = rw e
+
+  pub beyond-below : raw < 2880 → beyondLine r raw ≡ false
+  unfolding beyondLine
+  beyond-below h = and-false (usesLookup r) _ (lt-leb _ _ h)
 
 -- which of the three an answer is
 module _ (r : LineRecord) (raw : ℕ) where
-  pub answer-plain : usesLookup r ≡ false → answerAt r raw ≡ lineVoltage r raw
+  pub answer-line : beyondLine r raw ≡ false → answerAt r raw ≡ lineVoltage r raw
   unfolding answerAt
-  answer-plain e = simp e
-
-  pub answer-below : raw < 2880 → answerAt r raw ≡ lineVoltage r raw
-  unfolding answerAt
-  answer-below h = simp (lt-ltb _ _ h, or-true)
+  answer-line e = rw e
 
   pub answer-blend : usesLookup r ≡ true → 2880 ≤ raw → raw ≤ 2944
       → answerAt r raw ≡ blendOf (lineVoltage r raw) (lookupVoltage r raw) (raw - 2880)
   unfolding answerAt
-  answer-blend e l u = simp (e, le-ltb _ _ l, le-leb _ _ u)
+  answer-blend e l u = rw (beyond-yes r raw e l, le-leb _ _ u)
 
   pub answer-lookup : usesLookup r ≡ true → 2944 < raw → answerAt r raw ≡ lookupVoltage r raw
   unfolding answerAt
-  answer-lookup e h = let l : 2880 ≤ raw = omega arith in simp (e, le-ltb _ _ l, lt-leb _ _ h)
+  answer-lookup e h = rw (beyond-yes r raw e (omega arith), lt-leb _ _ h)
 
   -- at 2944 the blend is the lookup's
   pub answer-upper : usesLookup r ≡ true → 2944 ≤ raw → answerAt r raw ≡ lookupVoltage r raw
@@ -107,15 +108,16 @@ module _ (r : LineRecord) (ranges : InRanges r) (raw : ℕ) where
       → (2944 < raw → P (lookupVoltage r raw))
       → P (answerAt r raw)
   by-region P line blend look =
-      whether (usesLookup r)
+      whether (beyondLine r raw)
       (λ e.
-      either 2880 raw
-      (λ l. either raw 2944 (λ u. rw (answer-blend r raw e l u) (blend l u)) (λ u. rw (answer-lookup r raw e u) (look u)))
-      (λ l. rw (answer-below r raw l) line))
-      (λ e. rw (answer-plain r raw e) line)
+      let past = beyond-line r raw e in
+      either raw 2944
+      (λ u. rw (answer-blend r raw (past .0) (past .1) u) (blend (past .1) u))
+      (λ u. rw (answer-lookup r raw (past .0) u) (look u)))
+      (λ e. rw (answer-line r raw e) line)
 
   pub answer-most : raw ≤ 4095 → answerAt r raw ≤ 12285
   answer-most h =
       by-region (λ v. v ≤ 12285) (line-most h)
-      (λ l u. blend-most _ _ (raw - 2880) (omega arith) 12285 (line-most h) (lookup-most l h))
+      (λ l u. blend-within _ _ (raw - 2880) (omega arith) 0 12285 (omega arith, line-most h) (omega arith, lookup-most l h) .1)
       (λ u. lookup-most (omega arith) h)

@@ -1,48 +1,25 @@
 -- Laws of the fill: each of its refusals is given exactly when document 01 says, and which case a fill is. Assumes nothing.
-use mathlib.Core.Path.{_≡_, refl, sym, _∙_}
+use mathlib.Core.Path.{_≡_, sym, _∙_}
 use mathlib.Core.List.{List}
-use mathlib.Core.Logic.{_↔_}
 use Prim.Native.Nat.{ℕ, _+_, _≤_, _<_}
 use native.Mathlib.Omega.{arith}
 use lib.ListN.{length}
 use lib.Dec.{ltb}
-use borrow.Author.Tests.{ltb-true, ltb-false}
+use borrow.Author.Tests.{lt-ltb, le-ltb, ltb-true, ltb-false}
 use Rattle.terms.specs.declared.refusal.Outcome.the-variants.{Good, Refused}
 use Rattle.terms.specs.Refuse.{outcomeOf}
 use Rattle.terms.proofs.Refusals.{byNumber-good, byNumber-refused}
 use Rattle.line.specs.declared.record.LineRecord.{LineRecord}
 use Rattle.line.specs.Fill.{fillRefusal, answersFrom, filled}
-use Rattle.line.proofs.Records.{InRanges, record-then}
+use Rattle.line.proofs.Records.{Exactly, exactly}
 
-module _ (r : LineRecord) (first n : ℕ) where
-  -- the refusal by its three cases
-  by-case : (P : ℕ → Type 0)
-      → ((InRanges r → ⊥) → P 10) → (InRanges r → 4096 < first + n → P 11) → (InRanges r → first + n ≤ 4096 → P 0)
-      → P (fillRefusal r first n)
-  unfolding fillRefusal
-  by-case P outside above none =
-      record-then r (ltb 4096 (first + n)) 11 P outside (λ p t. above p (ltb-true _ _ t)) (λ p t. none p (ltb-false _ _ t))
-
-  -- 10: line record outside its ranges
-  pub fill-outside : (fillRefusal r first n ≡ 10) ↔ (InRanges r → ⊥)
-  fill-outside = (
-    by-case (λ m. m ≡ 10 → InRanges r → ⊥) (λ no e. no) (λ p h e. absurd (omega arith)) (λ p h e. absurd (omega arith)),
-    λ no. by-case (λ m. m ≡ 10) (λ q. refl) (λ p h. absurd (no p)) (λ p h. absurd (no p)),
-  )
-
-  -- 11: first count plus length above 4096, by a record that is inside
-  pub fill-above : (fillRefusal r first n ≡ 11) ↔ (InRanges r × (4096 < first + n))
-  fill-above = (
-    by-case (λ m. m ≡ 11 → InRanges r × (4096 < first + n)) (λ no e. absurd (omega arith)) (λ p h e. (p, h)) (λ p h e. absurd (omega arith)),
-    λ q. by-case (λ m. m ≡ 11) (λ no. absurd (no (q .0))) (λ p h. refl) (λ p h. absurd (omega arith)),
-  )
-
-  -- and else none
-  pub fill-good : (fillRefusal r first n ≡ 0) ↔ (InRanges r × (first + n ≤ 4096))
-  fill-good = (
-    by-case (λ m. m ≡ 0 → InRanges r × (first + n ≤ 4096)) (λ no e. absurd (omega arith)) (λ p h e. absurd (omega arith)) (λ p h e. (p, h)),
-    λ q. by-case (λ m. m ≡ 0) (λ no. absurd (no (q .0))) (λ p h. absurd (omega arith)) (λ p h. refl),
-  )
+-- 10: line record outside its ranges
+-- 11: a stretch whose first count plus length is above 4096
+pub fill-exactly : (r : LineRecord) (first n : ℕ) → Exactly r 11 (4096 < first + n) (first + n ≤ 4096) (fillRefusal r first n)
+unfolding fillRefusal
+fill-exactly r first n =
+    exactly r 11 (λ e. omega arith) (λ e. omega arith) (ltb 4096 (first + n))
+    (ltb-true 4096 (first + n), lt-ltb 4096 (first + n)) (ltb-false 4096 (first + n), le-ltb 4096 (first + n))
 
 -- which case a fill is, as a `return` asks it
 module _ (r : LineRecord) (first : ℕ) (lent : List ℕ) where

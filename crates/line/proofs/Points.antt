@@ -1,4 +1,4 @@
--- The points of the lookup, without signs. The tables' rules are one computed test; from them a point is the crate's signed sum for
+-- The points of the lookup, without signs. The tables' rules are computed tests; from them a point is the crate's signed sum for
 -- every Vref of a record, and points rise: they are linear in Vref, so what is ordered at 995 and at 1205 is ordered between.
 -- Assumes nothing.
 use mathlib.Core.Path.{_≡_, refl, sym, _∙_, ap}
@@ -23,15 +23,15 @@ point v low high = 1200 * low - 1000 * high + v * (high - low)
 abbrev Entry : ℕ → ℕ → Type 0
 Entry low high = (low ≤ high) × ((1000 * high ≤ 1200 * low) × (point 1205 low high ≤ 642545))
 
-abbrev entry : (low high : ℕ) → Check (Entry low high)
-entry low high = also (at-most _ _) (also (at-most _ _) (at-most _ _))
+abbrev entry : (low high : List ℕ) (k : ℕ) → Check (Entry (getD low k 0) (getD high k 0))
+entry low high k = also (at-most _ _) (also (at-most _ _) (at-most _ _))
 
 -- and of two neighbours: they rise at the least and at the largest Vref
 abbrev Rise : ℕ → ℕ → ℕ → ℕ → Type 0
 Rise low high low′ high′ = (point 995 low high ≤ point 995 low′ high′) × (point 1205 low high ≤ point 1205 low′ high′)
 
-abbrev rise : (low high low′ high′ : ℕ) → Check (Rise low high low′ high′)
-rise low high low′ high′ = also (at-most _ _) (at-most _ _)
+abbrev rise : (low high : List ℕ) (k : ℕ) → Check (Rise (getD low k 0) (getD high k 0) (getD low (k + 1) 0) (getD high (k + 1) 0))
+rise low high k = also (at-most _ _) (at-most _ _)
 
 -- what holds of both units' tables holds of a unit's
 by-unit : (P : List ℕ → List ℕ → Type 0) (unit : Bool) → P lutAdc1Low lutAdc1High → P lutAdc2Low lutAdc2High
@@ -43,15 +43,15 @@ entries : (unit k : ℕ) → k < 20 → Entry (lowAt unit k) (highAt unit k)
 unfolding lowAt highAt
 entries unit k h =
     by-unit (λ low high. Entry (getD low k 0) (getD high k 0)) (eqb unit 0)
-    (rule (λ j. entry (getD lutAdc1Low j 0) (getD lutAdc1High j 0)) 20 tt k h)
-    (rule (λ j. entry (getD lutAdc2Low j 0) (getD lutAdc2High j 0)) 20 tt k h)
+    (rule (entry lutAdc1Low lutAdc1High) 20 tt k h)
+    (rule (entry lutAdc2Low lutAdc2High) 20 tt k h)
 
 rises : (unit k : ℕ) → k < 19 → Rise (lowAt unit k) (highAt unit k) (lowAt unit (k + 1)) (highAt unit (k + 1))
 unfolding lowAt highAt
 rises unit k h =
     by-unit (λ low high. Rise (getD low k 0) (getD high k 0) (getD low (k + 1) 0) (getD high (k + 1) 0)) (eqb unit 0)
-    (rule (λ j. rise (getD lutAdc1Low j 0) (getD lutAdc1High j 0) (getD lutAdc1Low (j + 1) 0) (getD lutAdc1High (j + 1) 0)) 19 tt k h)
-    (rule (λ j. rise (getD lutAdc2Low j 0) (getD lutAdc2High j 0) (getD lutAdc2Low (j + 1) 0) (getD lutAdc2High (j + 1) 0)) 19 tt k h)
+    (rule (rise lutAdc1Low lutAdc1High) 19 tt k h)
+    (rule (rise lutAdc2Low lutAdc2High) 19 tt k h)
 
 -- linear in v, and ordered at two ends
 between : (A D B E lo hi v : ℕ) → lo ≤ v → v ≤ hi → A + lo * D ≤ B + lo * E → A + hi * D ≤ B + hi * E → A + v * D ≤ B + v * E

@@ -1,8 +1,8 @@
 -- Laws of the record check: a record is refused, with 10, exactly where it is outside its ranges; and the refusals of a call that
 -- checks a record and then one thing more. Assumes nothing.
 use mathlib.Core.Path.{_≡_, refl, sym, _∙_}
-use mathlib.Core.Bool.{Bool, true, false, _||_}
-use mathlib.Core.Logic.{_⊎_, inl, inr, ⊎-elim}
+use mathlib.Core.Bool.{Bool, true, false, _||_, true≢false}
+use mathlib.Core.Logic.{_↔_, _⊎_, inl, inr, ⊎-elim}
 use Prim.Native.Nat.{ℕ, _≤_}
 use native.Mathlib.Omega.{arith}
 use lib.Dec.{ltb}
@@ -56,12 +56,42 @@ module _ (r : LineRecord) where
       (one-number (ltb (r .vref) 995 || ltb 1205 (r .vref)) 10
       (one-number (ltb 1 (r .unit)) 10 (inl refl))))
 
-  -- what is true of the refusal, by its three cases: 10, then a test's number
-  pub record-then : (t : Bool) (n : ℕ) (P : ℕ → Type 0)
-      → ((InRanges r → ⊥) → P 10) → (InRanges r → t ≡ true → P n) → (InRanges r → t ≡ false → P 0)
+-- the refusal of a call that checks the record and then one thing more, with number n, is given exactly when
+pub record Exactly (r : LineRecord) (n : ℕ) (Bad Good : Type 0) (number : ℕ) : Type 0 where
+  pub outside : (number ≡ 10) ↔ (InRanges r → ⊥)
+  pub bad : (number ≡ n) ↔ (InRanges r × Bad)
+  pub good : (number ≡ 0) ↔ (InRanges r × Good)
+
+module _ (r : LineRecord) (n : ℕ) (some : n ≡ 0 → ⊥) (other : n ≡ 10 → ⊥) (t : Bool)
+    {Bad Good : Type 0} (bad : (t ≡ true) ↔ Bad) (good : (t ≡ false) ↔ Good) where
+  by-case : (P : ℕ → Type 0) → ((InRanges r → ⊥) → P 10) → (InRanges r → t ≡ true → P n) → (InRanges r → t ≡ false → P 0)
       → P (orElse (recordRefusal r) (refuse t n 0))
-  record-then t n P outside second none =
+  by-case P outside second none =
       ⊎-elim
-      (λ (e : recordRefusal r ≡ 0). whether t (λ i. rw (e, i) (second (record-sound e) i)) (λ i. rw (e, i) (none (record-sound e) i)))
-      (λ (e : recordRefusal r ≡ 10). rw e (outside (λ p. let z : _≡_ {A = ℕ} 0 10 = sym (record-good p) ∙ e in omega arith)))
-      record-number
+      (λ (e : recordRefusal r ≡ 0).
+      whether t (λ i. rw (e, i) (second (record-sound r e) i)) (λ i. rw (e, i) (none (record-sound r e) i)))
+      (λ (e : recordRefusal r ≡ 10). rw e (outside (λ p. let z : _≡_ {A = ℕ} 0 10 = sym (record-good r p) ∙ e in omega arith)))
+      (record-number r)
+
+  -- a test that fails and one that holds
+  never : {A : Type 0} → t ≡ true → t ≡ false → A
+  never p q = absurd (true≢false (sym p ∙ q))
+
+  pub exactly : Exactly r n Bad Good (orElse (recordRefusal r) (refuse t n 0))
+  exactly =
+      record {
+        outside = (
+          by-case (λ m. m ≡ 10 → InRanges r → ⊥) (λ no e. no) (λ p i e. absurd (other e)) (λ p i e. absurd (omega arith)),
+          λ no. by-case (λ m. m ≡ 10) (λ q. refl) (λ p i. absurd (no p)) (λ p i. absurd (no p)),
+        );
+        bad = (
+          by-case (λ m. m ≡ n → InRanges r × Bad)
+              (λ no e. absurd (other (sym e))) (λ p i e. (p, bad .0 i)) (λ p i e. absurd (some (sym e))),
+          λ q. by-case (λ m. m ≡ n) (λ no. absurd (no (q .0))) (λ p i. refl) (λ p i. never (bad .1 (q .1)) i),
+        );
+        good = (
+          by-case (λ m. m ≡ 0 → InRanges r × Good)
+              (λ no e. absurd (omega arith)) (λ p i e. absurd (some e)) (λ p i e. (p, good .0 i)),
+          λ q. by-case (λ m. m ≡ 0) (λ no. absurd (no (q .0))) (λ p i. never i (good .1 (q .1))) (λ p i. refl),
+        );
+      }

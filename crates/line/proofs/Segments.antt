@@ -1,6 +1,6 @@
 -- Laws of the fill's segments: how far each goes, and that in it the quotients of a slope are the answers. Assumes nothing.
-use mathlib.Core.Path.{_≡_, sym}
-use mathlib.Core.Bool.{true, false}
+use mathlib.Core.Path.{_≡_, sym, _∙_}
+use mathlib.Core.Bool.{true, false, true≢false}
 use Prim.Native.Nat.{ℕ, _+_, _*_, _-_, _/_, _%_, _≤_, _<_}
 use native.Mathlib.Nat.{mul-add}
 use native.Mathlib.Omega.{arith}
@@ -9,13 +9,12 @@ use Rattle.terms.specs.Table.{tab}
 use Rattle.terms.proofs.Order.{either, whether}
 use Rattle.terms.proofs.Tab.{tab-same}
 use Rattle.line.specs.declared.record.LineRecord.{LineRecord}
-use Rattle.line.specs.declared.lookup.Slope.{Slope}
+use Rattle.line.specs.declared.ramp.Slope.{Slope}
 use Rattle.line.specs.Record.{usesLookup, recordRefusal}
-use Rattle.line.specs.Lookup.{lookupVoltage}
-use Rattle.line.specs.Convert.{lineVoltage, blendOf}
+use Rattle.line.specs.Convert.{lineVoltage, blendOf, beyondLine}
 use Rattle.line.specs.Fill.{answersFrom}
 use Rattle.line.specs.Walk.{along, LutSlope, lineSlope, InStep, segmentLeft}
-use Rattle.line.proofs.Answers.{answer-plain, answer-below, answer-blend, answer-upper, line-sum-most}
+use Rattle.line.proofs.Answers.{beyond-yes, beyond-plain, beyond-below, answer-line, answer-blend, answer-upper, line-sum-most}
 use Rattle.line.proofs.Records.{record-sound}
 use Rattle.line.proofs.Sums.{sum-most, slope-voltage}
 
@@ -59,9 +58,13 @@ module _ (r : LineRecord) (first n : ℕ) {s : Slope} (p : LutSlope r first s) (
   lut-fits =
       omega (arith, p .sums n (step .room), sum-most r (record-sound r (step .good)) (first + n) (omega arith) (omega arith))
 
-  pub lut-tab : tab (λ k. along s k / 12800) n ≡ tab (λ k. lookupVoltage r (first + k)) n
-  lut-tab = tab-same _ _ _ (λ k h. slope-voltage r first p k (omega arith))
+  -- from 2944 on its quotients are the answers
+  pub upper-tab : usesLookup r ≡ true → 2944 ≤ first → tab (λ k. along s k / 12800) n ≡ answersFrom r first n
+  upper-tab uses l =
+      tab-same _ _ _
+      (λ k h. slope-voltage r first p k (omega arith) ∙ sym (answer-upper r (first + k) uses (omega arith)))
 
+  -- and below that their blend with the line's
   pub blend-tab : {line : Slope} → line ≡ lineSlope r first → usesLookup r ≡ true → first < 2944
       → tab (λ k. blendOf (along line k / 65536) (along s k / 12800) (first - 2880 + k)) n ≡ answersFrom r first n
   blend-tab q uses below =
@@ -71,18 +74,16 @@ module _ (r : LineRecord) (first n : ℕ) {s : Slope} (p : LutSlope r first s) (
       rw (line-voltage r first q k, slope-voltage r first p k (omega arith), gone)
       (sym (answer-blend r (first + k) uses (omega arith) (omega arith))))
 
--- where the line's voltages and where the lookup's are the answers
-module _ (r : LineRecord) (first n : ℕ) where
-  pub plain-answers : usesLookup r ≡ false → tab (λ k. lineVoltage r (first + k)) n ≡ answersFrom r first n
-  plain-answers e = tab-same _ _ _ (λ k h. sym (answer-plain r (first + k) e))
-
-  pub below-answers : first < 2880 → n ≤ segmentLeft r first → tab (λ k. lineVoltage r (first + k)) n ≡ answersFrom r first n
-  below-answers l h =
+-- where a count isn't past the line, none of its segment is
+module _ (r : LineRecord) (first n : ℕ) (none : beyondLine r first ≡ false) (left : n ≤ segmentLeft r first) where
+  line-segment : (k : ℕ) → k < n → beyondLine r (first + k) ≡ false
+  line-segment k h =
       whether (usesLookup r)
       (λ e.
-      let s = segment-line r first e l in
-      tab-same _ _ _ (λ k u. sym (answer-below r (first + k) (omega arith))))
-      (λ e. plain-answers e)
+      either 2880 first
+      (λ l. absurd (true≢false (sym (beyond-yes r first e l) ∙ none)))
+      (λ l. let s = segment-line r first e l in beyond-below r (first + k) (omega arith)))
+      (λ e. beyond-plain r (first + k) e)
 
-  pub upper-answers : usesLookup r ≡ true → 2944 ≤ first → tab (λ k. lookupVoltage r (first + k)) n ≡ answersFrom r first n
-  upper-answers e l = tab-same _ _ _ (λ k h. sym (answer-upper r (first + k) e (omega arith)))
+  pub line-answers : tab (λ k. lineVoltage r (first + k)) n ≡ answersFrom r first n
+  line-answers = tab-same _ _ _ (λ k h. sym (answer-line r (first + k) (line-segment k h)))

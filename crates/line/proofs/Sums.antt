@@ -1,26 +1,25 @@
 -- The lookup's numerator is the crate's signed sum regrouped: a mean of the two points around the count, weighed by its place between
 -- them. So it is never negative, it is small, and from one point to the next it grows by one step a count. Assumes nothing.
 use mathlib.Core.Path.{_≡_, refl, sym, _∙_, ap}
-use Prim.Native.Nat.{ℕ, zero, suc, _+_, _*_, _-_, _/_, _%_, _≤_, _<_, min}
-use native.Mathlib.Nat.{add-zero, mul-zero, mul-sub, mul-le-mul-left, mul-le-mul-right}
+use Prim.Native.Nat.{ℕ, zero, suc, _+_, _*_, _-_, _/_, _%_, _≤_, min}
+use native.Mathlib.Nat.{add-zero, mul-sub, mul-le-mul-left, mul-le-mul-right}
 use native.Mathlib.Omega.{arith}
 use lib.IntN.{ℤ, pos, negsuc, negℤ, natAbs, _+ℤ_, _-ℤ_, _*ℤ_}
 use lib.Signed.{quotZ}
 use Rattle.terms.proofs.Difference.{less, plus, times, times-left, natural}
 use Rattle.terms.proofs.Order.{either}
 use Rattle.line.specs.declared.record.LineRecord.{LineRecord}
-use Rattle.line.specs.declared.lookup.Slope.{Slope}
-use Rattle.line.specs.Record.{recordRefusal}
-use Rattle.line.specs.Lookup.{lowAt, highAt, lookupNumerator, lookupVoltage}
+use Rattle.line.specs.declared.ramp.Slope.{Slope}
+use Rattle.line.specs.Lookup.{lookupNumerator, lookupVoltage}
 use Rattle.line.specs.Walk.{pointAt, along, lookupSum, LutSlope}
 use Rattle.line.proofs.Points.{point-is, point-most, points-rise}
 use Rattle.line.proofs.Records.{InRanges}
 
 -- from p to q over 64 counts, y of them gone
-abbrev mean : ℕ → ℕ → ℕ → ℕ
+abbrev pub mean : ℕ → ℕ → ℕ → ℕ
 mean p q y = p * (64 - y) + q * y
 
-mean-most : (p q m y : ℕ) → p ≤ m → q ≤ m → y ≤ 64 → mean p q y ≤ m * 64
+pub mean-most : (p q m y : ℕ) → p ≤ m → q ≤ m → y ≤ 64 → mean p q y ≤ m * 64
 mean-most p q m y hp hq hy =
     omega (arith, mul-le-mul-right (64 - y) hp, mul-le-mul-right y hq, mul-sub m 64 y, mul-le-mul-left m hy)
 
@@ -46,6 +45,19 @@ sum-of q11 q12 q21 q22 v y2 y1 here there e f =
     (times (times-left q12 (less 1200 v)) y1))
     (times (times-left q22 (less v 1000)) y1))
     (omega (arith, ap (λ (z : ℕ). z * y2) e, ap (λ (z : ℕ). z * y1) f))
+
+-- the magnitude of a quotient
+abs-neg : (n : ℕ) → natAbs (negℤ (pos n)) ≡ n
+abs-neg zero = refl
+abs-neg (suc n) = refl
+
+abs-quot : (z : ℤ) (d : ℕ) → natAbs (quotZ z (pos d)) ≡ natAbs z / d
+abs-quot (pos n) d = refl
+abs-quot (negsuc n) d = abs-neg (suc n / d)
+
+pub voltage-is : (r : LineRecord) (raw : ℕ) → lookupVoltage r raw ≡ lookupSum r raw / 12800
+unfolding lookupVoltage lookupSum
+voltage-is r raw = abs-quot (lookupNumerator r raw +ℤ pos 6400) 12800
 
 module _ (r : LineRecord) (ranges : InRanges r) where
   -- a point of the record's unit, at its Vref
@@ -102,20 +114,22 @@ module _ (r : LineRecord) (ranges : InRanges r) where
           mean-most (pt i) (pt (i + 1)) 642545 y here there (omega arith),
         )
 
-    -- between the points around the count, and each count up to the next point adds the same
-    pub record Between (here there : ℕ) : Type 0 where
+    -- the points around the count: between them each count adds the same
+    pub record Around (here there : ℕ) : Type 0 where
       pub order : here ≤ there
+      pub small : there ≤ 642545
       pub sums : (k : ℕ) → raw % 64 + k ≤ 64
           → lookupSum r (raw + k) ≡ mean here there ((raw - 2880) % 64) + 6400 + (there - here) * k
 
-    pub between : raw ≤ 4095 → {here there : ℕ} → here ≡ pt ((raw - 2880) / 64) → there ≡ pt ((raw - 2880) / 64 + 1)
-        → Between here there
-    between upto {here} {there} h t =
+    pub around : raw ≤ 4095 → {here there : ℕ} → here ≡ pt ((raw - 2880) / 64) → there ≡ pt ((raw - 2880) / 64 + 1)
+        → Around here there
+    around upto h t =
         let i : ℕ = (raw - 2880) / 64 in
         let y : ℕ = (raw - 2880) % 64 in
         let rise = points-rise (r .unit) (r .vref) i (omega arith) (ranges .vref-least) (ranges .vref-most) in
         rw (h, t) (record {
           order = rise;
+          small = point-most (r .unit) (r .vref) (i + 1) (omega arith) (ranges .vref-most);
           sums =
               λ k near.
               ap (lookupSum r) (omega arith)
@@ -123,23 +137,11 @@ module _ (r : LineRecord) (ranges : InRanges r) where
               ∙ omega (arith, mean-along (pt i) (pt (i + 1)) y k rise (omega arith));
         })
 
--- the magnitude of a quotient
-abs-neg : (n : ℕ) → natAbs (negℤ (pos n)) ≡ n
-abs-neg zero = refl
-abs-neg (suc n) = refl
-
-abs-quot : (z : ℤ) (d : ℕ) → natAbs (quotZ z (pos d)) ≡ natAbs z / d
-abs-quot (pos n) d = refl
-abs-quot (negsuc n) d = abs-neg (suc n / d)
-
-pub voltage-is : (r : LineRecord) (raw : ℕ) → lookupVoltage r raw ≡ lookupSum r raw / 12800
-unfolding lookupVoltage lookupSum
-voltage-is r raw = abs-quot (lookupNumerator r raw +ℤ pos 6400) 12800
+    -- and at the count itself
+    pub around-here : {here there : ℕ} → Around here there → (mean here there ((raw - 2880) % 64) + 6400) / 12800 ≡ lookupVoltage r raw
+    around-here p = omega (arith, voltage-is r raw, ap (lookupSum r) (add-zero raw), p .sums 0 (omega arith))
 
 -- a slope's voltages, from its count up to the next point
 module _ (r : LineRecord) (raw : ℕ) {s : Slope} (p : LutSlope r raw s) where
   pub slope-voltage : (k : ℕ) → raw % 64 + k ≤ 64 → along s k / 12800 ≡ lookupVoltage r (raw + k)
   slope-voltage k h = ap (λ (n : ℕ). n / 12800) (sym (p .sums k h)) ∙ sym (voltage-is r (raw + k))
-
-  pub slope-here : s .sum / 12800 ≡ lookupVoltage r raw
-  slope-here = simp (mul-zero, add-zero) at (slope-voltage 0 (omega arith))

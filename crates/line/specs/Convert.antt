@@ -1,7 +1,7 @@
 -- Document 01, "ESP32 line rules": line, blend and lookup; what a record gives at a count, with the refusals of "Converting: 10, then 8".
 -- In the crate: `calculate_voltage_linear`, `interpolate_two_points` and `adc_val` of calibration/line/esp32.rs, whose source is
 -- ESP-IDF's components/esp_adc/esp32/adc_cali_line_fitting.c, from line 155 on.
-use mathlib.Core.Bool.{cond, not, _||_}
+use mathlib.Core.Bool.{Bool, cond, _&&_}
 use Prim.Native.Nat.{ℕ, _+_, _*_, _-_, _/_}
 use lib.Dec.{ltb, leb}
 use Rattle.terms.specs.Refuse.{refuse, orElse, answered}
@@ -23,12 +23,16 @@ lineVoltage r raw = (lineNumerator r raw + 32768) / 65536 + r .«coeff_b»
 unfoldable pub blendOf : ℕ → ℕ → ℕ → ℕ
 blendOf y1 y2 x = (y1 * 64 + y2 * x - y1 * x + 32) / 64
 
--- "Attenuation 3: line below 2880, blend 2880 to 2944, lookup above. Others: line"
+-- "Attenuation 3: line below 2880 .. Others: line": whether a count is past those that the line alone answers
+unfoldable pub beyondLine : LineRecord → ℕ → Bool
+beyondLine r raw = usesLookup r && leb 2880 raw
+
+-- "line below 2880, blend 2880 to 2944, lookup above"
 unfoldable pub answerAt : LineRecord → ℕ → ℕ
 answerAt r raw =
-    cond (not (usesLookup r) || ltb raw 2880) (lineVoltage r raw)
-    (cond (leb raw 2944) (blendOf (lineVoltage r raw) (lookupVoltage r raw) (raw - 2880))
-    (lookupVoltage r raw))
+    cond (beyondLine r raw)
+    (cond (leb raw 2944) (blendOf (lineVoltage r raw) (lookupVoltage r raw) (raw - 2880)) (lookupVoltage r raw))
+    (lineVoltage r raw)
 
 -- 10: line record outside its ranges
 -- 8: raw above 4095

@@ -5,7 +5,7 @@ use Prim.Native.Nat.{ℕ, _+_, _*_, _-_, _%_, _≤_, _<_}
 use lib.Dec.{ltb}
 use lib.IntN.{pos, natAbs, _+ℤ_}
 use Rattle.line.specs.declared.record.LineRecord.{LineRecord}
-use Rattle.line.specs.declared.lookup.Slope.{Slope}
+use Rattle.line.specs.declared.ramp.Slope.{Slope}
 use Rattle.line.specs.Record.{usesLookup, recordRefusal}
 use Rattle.line.specs.Lookup.{lowAt, highAt, lookupNumerator}
 

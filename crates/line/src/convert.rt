@@ -1,6 +1,6 @@
 // Converting a count to millivolts. In the crate: `adc_val`.
+use crate::lookup::LUT_ADC_STEP_SIZE;
 use crate::lookup::LUT_LOW_THRESH;
-use crate::lookup::LUT_STEP;
 use crate::lookup::calculate_voltage_lut;
 use crate::record::LineRecord;
 use crate::record::record_refusal;
@@ -12,8 +12,8 @@ use terms::unit::Millivolt;
 ghost use mathlib.Core.Path.{_≡_};
 ghost use mathlib.Core.Bool.{true};
 ghost use Prim.Native.Nat.{_≤_};
-ghost use Rattle.line.specs.Record.{usesLookup, recordRefusal};
-ghost use Rattle.line.specs.Convert.{lineVoltage, blendOf, answerAt, convertRefusal, convertOf};
+ghost use Rattle.line.specs.Record.{recordRefusal};
+ghost use Rattle.line.specs.Convert.{lineVoltage, blendOf, beyondLine, answerAt, convertRefusal, convertOf};
 
 pub(crate) const COEFF_A_SCALE: u32 = 65536;
 
@@ -44,12 +44,12 @@ pub(crate) fn interpolate_two_points(y1: u32, y2: u32, x: u32) -> u32
     requires { ⌜ (y1 ≤ 65535) × (y2 ≤ 65535) × (x ≤ 64) ⌝ }
     ensures { λ r. ⌜ r ≡ blendOf y1 y2 x ⌝ }
 {
-    (y1 * LUT_STEP + y2 * x - y1 * x + LUT_STEP / 2) / LUT_STEP
+    (y1 * LUT_ADC_STEP_SIZE + y2 * x - y1 * x + LUT_ADC_STEP_SIZE / 2) / LUT_ADC_STEP_SIZE
 }
 
-// The answer from 2880 on, where the lookup is used.
+// The answer past the line: blend or lookup.
 fn upper_answer(cal: LineRecord, raw: u32) -> u32
-    requires { ⌜ (convertRefusal cal raw ≡ 0) × (usesLookup cal ≡ true) × (2880 ≤ raw) ⌝ }
+    requires { ⌜ (convertRefusal cal raw ≡ 0) × (beyondLine cal raw ≡ true) ⌝ }
     ensures { λ r. ⌜ r ≡ answerAt cal raw ⌝ }
 {
     let lut_voltage = calculate_voltage_lut(cal, raw);
@@ -60,15 +60,22 @@ fn upper_answer(cal: LineRecord, raw: u32) -> u32
     interpolate_two_points(linear, lut_voltage, raw - LUT_LOW_THRESH)
 }
 
+// Whether a count is past those that the line alone answers.
+pub(crate) fn beyond_line(cal: LineRecord, raw: u32) -> bool
+    ensures { λ r. ⌜ r ≡ beyondLine cal raw ⌝ }
+{
+    if uses_lookup(cal) {
+        return LUT_LOW_THRESH <= raw;
+    }
+    false
+}
+
 // The answer at a count, in millivolts: line, blend or lookup.
 fn answer(cal: LineRecord, raw: u32) -> u32
     requires { ⌜ convertRefusal cal raw ≡ 0 ⌝ }
     ensures { λ r. ⌜ r ≡ answerAt cal raw ⌝ }
 {
-    if raw < LUT_LOW_THRESH {
-        return calculate_voltage_linear(cal, raw);
-    }
-    if uses_lookup(cal) {
+    if beyond_line(cal, raw) {
         return upper_answer(cal, raw);
     }
     calculate_voltage_linear(cal, raw)
@@ -97,5 +104,6 @@ pub fn convert(cal: LineRecord, count: Count) -> Converted
     if number != refusal::NONE {
         return Converted::Refused(Refusal { number });
     }
-    Converted::Voltage(Millivolt(answer(cal, raw as u32) as u16))
+    let mv = answer(cal, raw as u32) as u16;
+    Converted::Voltage(Millivolt(mv))
 }

@@ -3,12 +3,14 @@
 use crate::convert::COEFF_A_ROUND;
 use crate::convert::COEFF_A_SCALE;
 use crate::convert::LUT_HIGH_THRESH;
-use crate::convert::interpolate_two_points;
+use crate::convert::beyond_line;
+use crate::lookup::LUT_ADC_STEP_SIZE;
 use crate::lookup::LUT_LOW_THRESH;
 use crate::lookup::LUT_SCALE;
-use crate::lookup::LUT_STEP;
-use crate::lookup::Slope;
 use crate::lookup::lut_slope;
+use crate::ramp::Slope;
+use crate::ramp::blend_ramps;
+use crate::ramp::ramp;
 use crate::record::LineRecord;
 use crate::record::record_refusal;
 use crate::record::uses_lookup;
@@ -18,52 +20,16 @@ use terms::refusal::Refusal;
 use terms::unit::Count;
 ghost use mathlib.Core.Path.{_≡_};
 ghost use mathlib.Core.Bool.{true};
-ghost use Prim.Native.Nat.{_+_, _*_, _/_, _≤_, _<_, min};
+ghost use Prim.Native.Nat.{_+_, _≤_, min};
 ghost use lib.ListN.{length};
 ghost use Rattle.terms.specs.Refuse.{outcomeOf};
 ghost use Rattle.terms.specs.Table.{tab};
 ghost use Rattle.line.specs.Record.{usesLookup, recordRefusal};
-ghost use Rattle.line.specs.Lookup.{lookupVoltage};
-ghost use Rattle.line.specs.Convert.{lineVoltage, blendOf};
+ghost use Rattle.line.specs.Convert.{lineVoltage};
 ghost use Rattle.line.specs.Fill.{fillRefusal, answersFrom, filled};
-ghost use Rattle.line.specs.Walk.{along, lineSlope, Blended, InStep, segmentLeft};
+ghost use Rattle.line.specs.Walk.{lineSlope, InStep, segmentLeft};
 
 const COUNTS: u32 = 4096;
-
-// Whole quotients of a sum that grows by one step a place.
-fn ramp(slope: Slope, divisor: u32, out: &mut [u16])
-    requires { ⌜ (0 < divisor) × (divisor ≤ 65536) × (along slope (length (now out)) < 65536 * divisor) ⌝ }
-    ensures { λ r. ⌜ now (out .exit) ≡ tab (λ k. along slope k / divisor) (length (now (out .entry))) ⌝ }
-{
-    let rise = slope.rise;
-    let mut sum = slope.sum;
-    let mut i = 0;
-    while i < out.len() {
-        out[i] = (sum / divisor) as u16;
-        sum += rise;
-        i += 1;
-    }
-}
-
-// The blend of two such sums, of which x counts are gone at the first place.
-fn blend_ramps(line: Slope, lut: Slope, x: u32, out: &mut [u16])
-    requires { ⌜ Blended line lut x (length (now out)) ⌝ }
-    ensures { λ r. ⌜ now (out .exit) ≡ tab (λ k. blendOf (along line k / 65536) (along lut k / 12800) (x + k)) (length (now (out .entry))) ⌝ }
-{
-    let line_rise = line.rise;
-    let lut_rise = lut.rise;
-    let mut line_sum = line.sum;
-    let mut lut_sum = lut.sum;
-    let mut gone = x;
-    let mut i = 0;
-    while i < out.len() {
-        out[i] = interpolate_two_points(line_sum / COEFF_A_SCALE, lut_sum / LUT_SCALE, gone) as u16;
-        line_sum += line_rise;
-        lut_sum += lut_rise;
-        gone += 1;
-        i += 1;
-    }
-}
 
 // The line's slope from a count on; its divisor is `COEFF_A_SCALE`.
 fn line_slope(cal: LineRecord, raw: u32) -> Slope
@@ -86,34 +52,17 @@ fn fill_line(cal: LineRecord, first: u32, out: &mut [u16])
     ramp(line_slope(cal, first), COEFF_A_SCALE, out);
 }
 
-// The lookup's voltages, at most up to the next point.
-fn fill_lut(cal: LineRecord, first: u32, out: &mut [u16])
-    requires { ⌜ InStep cal first (length (now out)) ⌝ }
-    ensures { λ r. ⌜ now (out .exit) ≡ tab (λ k. lookupVoltage cal (first + k)) (length (now (out .entry))) ⌝ }
-{
-    ramp(lut_slope(cal, first), LUT_SCALE, out);
-}
-
-// The blend's answers, at most up to 2944.
-fn fill_blend(cal: LineRecord, first: u32, out: &mut [u16])
-    requires { ⌜ (usesLookup cal ≡ true) × InStep cal first (length (now out)) × (first < 2944) ⌝ }
-    ensures { λ r. ⌜ now (out .exit) ≡ answersFrom cal first (length (now (out .entry))) ⌝ }
-{
-    let line = line_slope(cal, first);
-    let lut = lut_slope(cal, first);
-    blend_ramps(line, lut, first - LUT_LOW_THRESH, out);
-}
-
 // The answers from 2880 on, where the lookup is used, at most up to the next point.
 fn fill_step(cal: LineRecord, first: u32, out: &mut [u16])
     requires { ⌜ (usesLookup cal ≡ true) × InStep cal first (length (now out)) ⌝ }
     ensures { λ r. ⌜ now (out .exit) ≡ answersFrom cal first (length (now (out .entry))) ⌝ }
 {
+    let lut = lut_slope(cal, first);
     if first < LUT_HIGH_THRESH {
-        fill_blend(cal, first, out);
+        blend_ramps(line_slope(cal, first), lut, first - LUT_LOW_THRESH, out);
         return;
     }
-    fill_lut(cal, first, out);
+    ramp(lut, LUT_SCALE, out);
 }
 
 // How many counts from a given one on are in its segment. Points stand at multiples of 64.
@@ -125,7 +74,7 @@ fn segment_left(cal: LineRecord, count: u32) -> u32
         if count < LUT_LOW_THRESH {
             return LUT_LOW_THRESH - count;
         }
-        return LUT_STEP - count % LUT_STEP;
+        return LUT_ADC_STEP_SIZE - count % LUT_ADC_STEP_SIZE;
     }
     COUNTS - count
 }
@@ -135,11 +84,7 @@ fn fill_segment(cal: LineRecord, first: u32, out: &mut [u16])
     requires { ⌜ (recordRefusal cal ≡ 0) × (first ≤ 4095) × (length (now out) ≤ segmentLeft cal first) ⌝ }
     ensures { λ r. ⌜ now (out .exit) ≡ answersFrom cal first (length (now (out .entry))) ⌝ }
 {
-    if first < LUT_LOW_THRESH {
-        fill_line(cal, first, out);
-        return;
-    }
-    if uses_lookup(cal) {
+    if beyond_line(cal, first) {
         fill_step(cal, first, out);
         return;
     }

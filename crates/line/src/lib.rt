@@ -5,4 +5,5 @@ pub mod convert;
 pub mod decode;
 pub mod fill;
 mod lookup;
+mod ramp;
 pub mod record;

@@ -1,8 +1,9 @@
 // The lookup: voltages from count 2880 on, between points that stand 64 counts apart. In the crate: `calculate_voltage_lut`.
+use crate::ramp::Slope;
 use crate::record::LineRecord;
 ghost use mathlib.Core.Path.{_≡_};
 ghost use mathlib.Core.List.{_++_};
-ghost use Prim.Native.Nat.{_≤_, _<_};
+ghost use Prim.Native.Nat.{_+_, _*_, _-_, _≤_, _<_};
 ghost use lib.ListN.{getD};
 ghost use Rattle.line.specs.Record.{recordRefusal};
 ghost use Rattle.line.specs.Lookup.{lutAdc1Low, lutAdc1High, lutAdc2Low, lutAdc2High, lookupVoltage};
@@ -10,7 +11,7 @@ ghost use Rattle.line.specs.Walk.{pointAt, LutSlope};
 
 pub(crate) const LUT_LOW_THRESH: u32 = 2880;
 
-pub(crate) const LUT_STEP: u32 = 64;
+pub(crate) const LUT_ADC_STEP_SIZE: u32 = 64;
 
 pub(crate) const LUT_SCALE: u32 = 12800;
 
@@ -24,12 +25,6 @@ const LUT_VREF_HIGH: u32 = 1200;
 
 // A row of the tables: millivolts at a Vref of 1000 and of 1200.
 pub(crate) struct Row(pub(crate) u32, pub(crate) u32);
-
-// A sum at a count, and what each count more adds to it. A voltage is a quotient of such a sum, rounding included.
-pub(crate) struct Slope {
-    pub(crate) sum: u32,
-    pub(crate) rise: u32,
-}
 
 // The crate's four tables, a row for each point: those of unit 0, then those of unit 1. As a `match` they are constant data, while a
 // constant array would be made anew at each use.
@@ -82,7 +77,7 @@ fn lut_row(k: u32) -> Row
     }
 }
 
-// `LUT_VREF_HIGH - LUT_VREF_LOW` times the millivolts at point k. The tables keep every difference here above zero.
+// `LUT_VREF_HIGH - LUT_VREF_LOW` times the millivolts at point k. By the tables no difference here is below zero.
 fn point(unit: u8, vref: u32, k: u32) -> u32
     requires { ⌜ (unit ≤ 1) × (vref ≤ 1205) × (k < 20) ⌝ }
     ensures { λ r. ⌜ r ≡ pointAt unit vref k ⌝ }
@@ -93,6 +88,27 @@ fn point(unit: u8, vref: u32, k: u32) -> u32
     LUT_VREF_HIGH * low - LUT_VREF_LOW * high + vref * (high - low)
 }
 
+// `LUT_SCALE` times the voltage between two points, rounding included, where place of the 64 counts between them are gone.
+fn lut_sum(here: u32, there: u32, place: u32) -> u32
+    requires { ⌜ (here ≤ 642545) × (there ≤ 642545) × (place ≤ 64) ⌝ }
+    ensures { λ r. ⌜ r ≡ here * (64 - place) + there * place + 6400 ⌝ }
+{
+    here * (LUT_ADC_STEP_SIZE - place) + there * place + LUT_ROUND
+}
+
+// The lookup's millivolts at a count. Apart from `lut_slope`, so that each is compiled into its one caller.
+pub(crate) fn calculate_voltage_lut(cal: LineRecord, raw: u32) -> u32
+    requires { ⌜ (recordRefusal cal ≡ 0) × (2880 ≤ raw) × (raw ≤ 4095) ⌝ }
+    ensures { λ r. ⌜ r ≡ lookupVoltage cal raw ⌝ }
+{
+    let unit = cal.unit;
+    let vref = cal.vref;
+    let past = raw - LUT_LOW_THRESH;
+    let here = point(unit, vref, past / LUT_ADC_STEP_SIZE);
+    let there = point(unit, vref, past / LUT_ADC_STEP_SIZE + 1);
+    lut_sum(here, there, past % LUT_ADC_STEP_SIZE) / LUT_SCALE
+}
+
 // The lookup's slope from a count up to the next point; its divisor is `LUT_SCALE`.
 pub(crate) fn lut_slope(cal: LineRecord, raw: u32) -> Slope
     requires { ⌜ (recordRefusal cal ≡ 0) × (2880 ≤ raw) × (raw ≤ 4095) ⌝ }
@@ -101,21 +117,10 @@ pub(crate) fn lut_slope(cal: LineRecord, raw: u32) -> Slope
     let unit = cal.unit;
     let vref = cal.vref;
     let past = raw - LUT_LOW_THRESH;
-    let i = past / LUT_STEP;
-    let place = past % LUT_STEP;
-    let here = point(unit, vref, i);
-    let there = point(unit, vref, i + 1);
+    let here = point(unit, vref, past / LUT_ADC_STEP_SIZE);
+    let there = point(unit, vref, past / LUT_ADC_STEP_SIZE + 1);
     Slope {
-        sum: here * (LUT_STEP - place) + there * place + LUT_ROUND,
+        sum: lut_sum(here, there, past % LUT_ADC_STEP_SIZE),
         rise: there - here,
     }
-}
-
-// The lookup's millivolts at a count.
-pub(crate) fn calculate_voltage_lut(cal: LineRecord, raw: u32) -> u32
-    requires { ⌜ (recordRefusal cal ≡ 0) × (2880 ≤ raw) × (raw ≤ 4095) ⌝ }
-    ensures { λ r. ⌜ r ≡ lookupVoltage cal raw ⌝ }
-{
-    let slope = lut_slope(cal, raw);
-    slope.sum / LUT_SCALE
 }

@@ -1,68 +1,52 @@
--- `line::fill_segment` meets its contract: the tests say which segment it is. Assumes nothing.
+-- `line::fill_segment` meets its contract: the test says which segment it is. Assumes nothing.
 use mathlib.Core.Path.{sym, _∙_}
 use native.Mathlib.Omega.{arith}
 use borrow.Author.Needs.{needs}
-use Rattle.line.proofs.Segments.{segment-step, segment-ends, plain-answers, below-answers}
+use Rattle.line.proofs.Answers.{beyond-line}
+use Rattle.line.proofs.Segments.{segment-step, segment-ends, line-answers}
 use Rattle.line.proofs.fill.fill_segment.Statement.{statement}
 use Rattle.line.proofs.fill.fill_segment.Tie as tie
 
-fill-line-requires : tie.Need-fill-line-requires
-fill-line-requires c κs =
-    let p = c .before .before .before in
-    let ends = segment-ends (p .args .cal) (p .args .first) (p .pre .1) in
-    (p .pre .0, omega arith)
+beyond-line-requires : tie.Need-beyond-line-requires
+beyond-line-requires c κs = search needs
+
+fill-step-requires : tie.Need-fill-step-requires
+fill-step-requires c κs =
+    let p = c .before .before in
+    let past = beyond-line _ _ (sym (p .beyond-line .ensures) ∙ c .before .if1 .taken) in
+    let pre = p .before .before .pre in
+    let left = segment-step _ _ (past .0) (past .1) in
+    (past .0, record { good = pre .0; from = past .1; upto = pre .1; room = omega arith })
 
 same-length : tie.Need-same-length
 same-length c = search needs
 
 returns : tie.Need-returns
-returns c =
+returns c = search needs
+
+fill-line-requires : tie.Need-fill-line-requires
+fill-line-requires c κs =
     let p = c .before .before .before .before in
-    c .before .before .fill-line .ensures ∙ below-answers _ _ _ (p .if1 .taken) (p .before .before .pre .2)
-
-uses-lookup-requires : tie.Need-uses-lookup-requires
-uses-lookup-requires c κs = search needs
-
-fill-step-requires : tie.Need-fill-step-requires
-fill-step-requires c κs =
-    let p = c .before .before in
-    let from = p .before .if1 .left in
-    let uses = sym (p .uses-lookup .ensures) ∙ c .before .if2 .taken in
-    let q = p .before .before .before .pre in
-    let left = segment-step _ _ uses from in
-    (uses, record { good = q .0; from = from; upto = q .1; room = omega arith })
+    let ends = segment-ends (p .args .cal) (p .args .first) (p .pre .1) in
+    (p .pre .0, omega arith)
 
 same-length-2 : tie.Need-same-length-2
 same-length-2 c = search needs
 
 returns-2 : tie.Need-returns-2
-returns-2 c = search needs
-
-fill-line-requires-2 : tie.Need-fill-line-requires-2
-fill-line-requires-2 c κs =
-    let p = c .before .before .before .before .before in
-    let ends = segment-ends (p .args .cal) (p .args .first) (p .pre .1) in
-    (p .pre .0, omega arith)
-
-same-length-3 : tie.Need-same-length-3
-same-length-3 c = search needs
-
-returns-3 : tie.Need-returns-3
-returns-3 c =
+returns-2 c =
     let p = c .before .before .before .before in
-    c .before .before .fill-line2 .ensures ∙ plain-answers _ _ _ (sym (p .before .uses-lookup .ensures) ∙ p .if2 .left)
+    let none = sym (p .before .beyond-line .ensures) ∙ p .if1 .left in
+    c .before .before .fill-line .ensures ∙ line-answers _ _ _ none (p .before .before .before .pre .2)
 
 pub fill-segment-spec : {M : Type 1} → statement M
 fill-segment-spec =
     tie.close
     (tie.spec
-    fill-line-requires
+    beyond-line-requires
+    fill-step-requires
     same-length
     returns
-    uses-lookup-requires
-    fill-step-requires
+    fill-line-requires
     same-length-2
-    returns-2
-    fill-line-requires-2
-    same-length-3
-    returns-3)
+    returns-2)

@@ -1,5 +1,8 @@
 -- `line::record_refusal` meets its contract: at each `return` the tests that led there decide the definition's. Assumes nothing.
+use mathlib.Core.Path.{_≡_, sym, _∙_}
+use lib.Dec.{ltb}
 use borrow.Author.Tests.{lt-ltb, le-ltb}
+use Rattle.terms.specs.Refuse.{refuse}
 use Rattle.line.specs.Record.{recordRefusal}
 use Rattle.line.proofs.record.record_refusal.Statement.{statement}
 use Rattle.line.proofs.record.record_refusal.Tie as tie
@@ -28,29 +31,25 @@ returns-4 c =
       lt-ltb _ _ (c .if4 .taken),
     )
 
-returns-5 : tie.Need-returns-5
+-- the first four pass, so that the unit decides
+unit : (c : tie.Else4)
+    → let cal = c .before .before .before .before .args .cal in
+    recordRefusal cal ≡ refuse (ltb 1 (cal .unit)) 10 0
 unfolding recordRefusal
-returns-5 c =
-    let p = c .before .before .before in
+unit c =
+    let p = c .before .before in
     simp (
       le-ltb _ _ (p .before .if1 .left),
       le-ltb _ _ (p .if2 .left),
-      le-ltb _ _ (c .before .before .if3 .left),
-      le-ltb _ _ (c .before .if4 .left),
-      lt-ltb _ _ (c .if5 .taken),
+      le-ltb _ _ (c .before .if3 .left),
+      le-ltb _ _ (c .if4 .left),
     )
 
+returns-5 : tie.Need-returns-5
+returns-5 c = sym (unit (c .before) ∙ rw (lt-ltb _ _ (c .if5 .taken)))
+
 returns-6 : tie.Need-returns-6
-unfolding recordRefusal
-returns-6 c =
-    let p = c .before .before .before in
-    simp (
-      le-ltb _ _ (p .before .if1 .left),
-      le-ltb _ _ (p .if2 .left),
-      le-ltb _ _ (c .before .before .if3 .left),
-      le-ltb _ _ (c .before .if4 .left),
-      le-ltb _ _ (c .if5 .left),
-    )
+returns-6 c = sym (unit (c .before) ∙ rw (le-ltb _ _ (c .if5 .left)))
 
 pub record-refusal-spec : {M : Type 1} → statement M
 record-refusal-spec =

@@ -8,8 +8,8 @@ use borrow.Author.Needs.{needs}
 use Rattle.terms.proofs.Tab.{Filled, fill-start, fill-more, fill-done}
 use Rattle.line.specs.Walk.{along}
 use Rattle.line.proofs.Ramps.{ramp-next, ramp-room, quotient-fits}
-use Rattle.line.proofs.fill.ramp.Statement.{statement}
-use Rattle.line.proofs.fill.ramp.Tie as tie
+use Rattle.line.proofs.ramp.ramp.Statement.{statement}
+use Rattle.line.proofs.ramp.ramp.Tie as tie
 
 abbrev Inv-loop : tie.InvT-loop
 Inv-loop divisor out₀ rise sum₀ i₀ out sum i =

@@ -9,10 +9,10 @@ use borrow.Author.Needs.{needs}
 use Rattle.terms.proofs.Tab.{Filled, fill-start, fill-more, fill-done}
 use Rattle.line.specs.Convert.{blendOf}
 use Rattle.line.specs.Walk.{along}
-use Rattle.line.proofs.Answers.{blend-most}
+use Rattle.line.proofs.Answers.{blend-within}
 use Rattle.line.proofs.Ramps.{ramp-next, ramp-room}
-use Rattle.line.proofs.fill.blend_ramps.Statement.{statement}
-use Rattle.line.proofs.fill.blend_ramps.Tie as tie
+use Rattle.line.proofs.ramp.blend_ramps.Statement.{statement}
+use Rattle.line.proofs.ramp.blend_ramps.Tie as tie
 
 abbrev Inv-loop : tie.InvT-loop
 Inv-loop x out₀ line-rise lut-rise line-sum₀ lut-sum₀ gone₀ i₀ out line-sum lut-sum gone i =
@@ -43,7 +43,7 @@ interpolate-two-points-requires c κs =
 cast-out : tie.Need-cast-out Inv-loop μ-loop
 cast-out c =
     let p = interpolate-two-points-requires (c .before) tt in
-    omega (arith, c .interpolate-two-points .ensures, blend-most _ _ _ (p .2) 65535 (p .0) (p .1))
+    omega (arith, c .interpolate-two-points .ensures, blend-within _ _ _ (p .2) 0 65535 (omega arith, p .0) (omega arith, p .1) .1)
 
 mul-out : tie.Need-mul-out Inv-loop μ-loop
 mul-out c = search needs

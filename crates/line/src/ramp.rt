@@ -1,0 +1,51 @@
+// Sums that grow by one step a count, and their whole quotients: line and lookup are such, and so the fill moves by additions.
+use crate::convert::COEFF_A_SCALE;
+use crate::convert::interpolate_two_points;
+use crate::lookup::LUT_SCALE;
+ghost use mathlib.Core.Path.{_≡_};
+ghost use Prim.Native.Nat.{_+_, _*_, _/_, _≤_, _<_};
+ghost use lib.ListN.{length};
+ghost use Rattle.terms.specs.Table.{tab};
+ghost use Rattle.line.specs.Convert.{blendOf};
+ghost use Rattle.line.specs.Walk.{along, Blended};
+
+// A sum at a count, and what each count more adds to it. A voltage is a quotient of such a sum, which has the rounding in it.
+pub(crate) struct Slope {
+    pub(crate) sum: u32,
+    pub(crate) rise: u32,
+}
+
+// Writes the quotients from the slope's count on.
+pub(crate) fn ramp(slope: Slope, divisor: u32, out: &mut [u16])
+    requires { ⌜ (0 < divisor) × (divisor ≤ 65536) × (along slope (length (now out)) < 65536 * divisor) ⌝ }
+    ensures { λ r. ⌜ now (out .exit) ≡ tab (λ k. along slope k / divisor) (length (now (out .entry))) ⌝ }
+{
+    let rise = slope.rise;
+    let mut sum = slope.sum;
+    let mut i = 0;
+    while i < out.len() {
+        out[i] = (sum / divisor) as u16;
+        sum += rise;
+        i += 1;
+    }
+}
+
+// Writes the blends of the line's and the lookup's quotients, where x of the blend's 64 counts are gone at the first.
+pub(crate) fn blend_ramps(line: Slope, lut: Slope, x: u32, out: &mut [u16])
+    requires { ⌜ Blended line lut x (length (now out)) ⌝ }
+    ensures { λ r. ⌜ now (out .exit) ≡ tab (λ k. blendOf (along line k / 65536) (along lut k / 12800) (x + k)) (length (now (out .entry))) ⌝ }
+{
+    let line_rise = line.rise;
+    let lut_rise = lut.rise;
+    let mut line_sum = line.sum;
+    let mut lut_sum = lut.sum;
+    let mut gone = x;
+    let mut i = 0;
+    while i < out.len() {
+        out[i] = interpolate_two_points(line_sum / COEFF_A_SCALE, lut_sum / LUT_SCALE, gone) as u16;
+        line_sum += line_rise;
+        lut_sum += lut_rise;
+        gone += 1;
+        i += 1;
+    }
+}
