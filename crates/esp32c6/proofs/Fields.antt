@@ -1,0 +1,26 @@
+-- The C6's fields have no more bits than document 01's table says, by one computed test a row of it. Assumes nothing.
+use mathlib.Core.Path.{_≡_}
+use mathlib.Core.List.{List}
+use Prim.Native.Nat.{ℕ, _+_, _^_, _≤_, _<_}
+use native.Mathlib.Omega.{arith}
+use Rattle.terms.specs.declared.chip.MapChip.the-variants.{C6}
+use Rattle.terms.proofs.Check.{at-most, rule}
+use Rattle.efuse.specs.Map.{countsOf}
+use Rattle.efuse.specs.Decoding.{fieldsRefusal, valueAt}
+use Rattle.efuse.proofs.Decodings.{value-fits}
+
+module _ (words : ℕ → ℕ) (dump map : List ℕ) (good : fieldsRefusal words C6 dump map ≡ 0) where
+  pub init-fits : (atten : ℕ) → atten ≤ 3 → valueAt C6 dump map (9 + atten) < 2 ^ 15
+  init-fits atten h =
+      value-fits words C6 dump map good (9 + atten) (omega arith) (omega arith) 15
+      (rule (λ k. at-most (countsOf (9 + k) .max) 15) 4 tt atten (omega arith))
+
+  pub cal-fits : (atten : ℕ) → atten ≤ 3 → valueAt C6 dump map (13 + atten) < 2 ^ 10
+  cal-fits atten h =
+      value-fits words C6 dump map good (13 + atten) (omega arith) (omega arith) 10
+      (rule (λ k. at-most (countsOf (13 + k) .max) 10) 4 tt atten (omega arith))
+
+  pub channel-fits : (channel : ℕ) → channel ≤ 6 → valueAt C6 dump map (17 + channel) < 2 ^ 4
+  channel-fits channel h =
+      value-fits words C6 dump map good (17 + channel) (omega arith) (omega arith) 4
+      (rule (λ k. at-most (countsOf (17 + k) .max) 4) 7 tt channel (omega arith))

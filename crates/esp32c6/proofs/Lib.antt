@@ -1,0 +1,6 @@
+pub mod Answers
+pub mod Channels
+pub mod Codes
+pub mod Fields
+pub mod Unique
+pub mod Versions

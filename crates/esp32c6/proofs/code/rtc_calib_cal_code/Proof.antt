@@ -1,0 +1,70 @@
+-- `esp32c6::rtc_calib_cal_code` meets its contract: where nothing is refused the attenuation's field has ten bits.
+-- Assumes nothing.
+use mathlib.Core.Path.{_≡_, sym, _∙_, ap}
+use Prim.Native.Nat.{_≤_}
+use native.Mathlib.Omega.{arith}
+use lib.IntN.{ℤ, natAbs}
+use denote.Ref.{now}
+use borrow.Author.Needs.{needs}
+use Rattle.terms.specs.declared.chip.MapChip.the-variants.{C6}
+use Rattle.terms.proofs.Refusals.{answered-good, answered-refused}
+use Rattle.efuse.specs.Field.{eight}
+use Rattle.efuse.specs.Decoding.{fieldsRefusal}
+use Rattle.esp32c6.specs.declared.code.Code.the-variants.{Value, Refused}
+use Rattle.esp32c6.specs.Code.{calCode, calCodeOf}
+use Rattle.esp32c6.proofs.Codes.{code-good, offset-range}
+use Rattle.esp32c6.proofs.Fields.{cal-fits}
+use Rattle.esp32c6.proofs.code.rtc_calib_cal_code.Statement.{statement}
+use Rattle.esp32c6.proofs.code.rtc_calib_cal_code.Tie as tie
+
+code-refusal-requires : tie.Need-code-refusal-requires
+code-refusal-requires c κs = search needs
+
+returns : tie.Need-returns
+unfolding calCodeOf
+returns c = answered-refused _ _ Refused (c .before .code-refusal .ensures) (c .if1 .taken)
+
+module _ (c : tie.Else1) where
+  good : let a = c .before .before .before .before .args in
+      (fieldsRefusal eight C6 (now (a .dump)) (now (a .map)) ≡ 0) × (a .atten ≤ 3)
+  good = code-good _ _ _ _ _ _ (sym (c .before .code-refusal .ensures) ∙ c .if1 .left)
+
+add-value-at : tie.Need-add-value-at
+add-value-at c = search needs
+
+value-at-requires : tie.Need-value-at-requires
+value-at-requires c κs = let g = good c in omega arith
+
+rtc-calib-version-requires : tie.Need-rtc-calib-version-requires
+rtc-calib-version-requires c κs = search needs
+
+chk-offset-requires : tie.Need-chk-offset-requires
+chk-offset-requires c κs = search needs
+
+cal-code-requires : tie.Need-cal-code-requires
+cal-code-requires c κs =
+    let g = good (c .before .before .before) in
+    rw (c .chk-offset .ensures, c .before .before .value-at .ensures)
+    (offset-range _ _ .0, offset-range _ _ .1, cal-fits _ _ _ (g .0) _ (g .1))
+
+returns-2 : tie.Need-returns-2
+unfolding calCodeOf calCode
+returns-2 c =
+    let p = c .before .before .before in
+    let code = rw (c .before .chk-offset .ensures, c .before .before .rtc-calib-version .ensures, p .value-at .ensures)
+    at (c .cal-code .ensures) in
+    answered-good _ _ Refused (sym (p .before .before .code-refusal .ensures) ∙ p .before .if1 .left)
+    (ap (λ (z : ℤ). Value (natAbs z)) code)
+
+pub rtc-calib-cal-code-spec : {M : Type 1} → statement M
+rtc-calib-cal-code-spec =
+    tie.close
+    (tie.spec
+    code-refusal-requires
+    returns
+    add-value-at
+    value-at-requires
+    rtc-calib-version-requires
+    chk-offset-requires
+    cal-code-requires
+    returns-2)

@@ -1,0 +1,63 @@
+-- `esp32c6::rtc_calib_init_code` meets its contract: where nothing is refused the attenuation's field has 15 bits at most.
+-- Assumes nothing.
+use mathlib.Core.Path.{_≡_, sym, _∙_, ap}
+use Prim.Native.Nat.{ℕ, _+_, _^_, _≤_, _<_}
+use native.Mathlib.Omega.{arith}
+use denote.Ref.{now}
+use borrow.Author.Needs.{needs}
+use Rattle.terms.specs.declared.chip.MapChip.the-variants.{C6}
+use Rattle.terms.proofs.Refusals.{answered-good, answered-refused}
+use Rattle.efuse.specs.Field.{eight}
+use Rattle.efuse.specs.Decoding.{fieldsRefusal}
+use Rattle.esp32c6.specs.declared.code.Code.the-variants.{Value, Refused}
+use Rattle.esp32c6.specs.Code.{initCodeOf}
+use Rattle.esp32c6.proofs.Codes.{code-good}
+use Rattle.esp32c6.proofs.Fields.{init-fits}
+use Rattle.esp32c6.proofs.code.rtc_calib_init_code.Statement.{statement}
+use Rattle.esp32c6.proofs.code.rtc_calib_init_code.Tie as tie
+
+code-refusal-requires : tie.Need-code-refusal-requires
+code-refusal-requires c κs = search needs
+
+returns : tie.Need-returns
+unfolding initCodeOf
+returns c = answered-refused _ _ Refused (c .before .code-refusal .ensures) (c .if1 .taken)
+
+module _ (c : tie.Else1) where
+  good : let a = c .before .before .before .before .args in
+      (fieldsRefusal eight C6 (now (a .dump)) (now (a .map)) ≡ 0) × (a .atten ≤ 3)
+  good = code-good _ _ _ _ _ _ (sym (c .before .code-refusal .ensures) ∙ c .if1 .left)
+
+add-value-at : tie.Need-add-value-at
+add-value-at c = search needs
+
+value-at-requires : tie.Need-value-at-requires
+value-at-requires c κs = let g = good c in omega arith
+
+few : (c : tie.After-value-at) → c .value-at .result < 2 ^ 15
+few c = let g = good (c .before) in rw (c .value-at .ensures) (init-fits _ _ _ (g .0) _ (g .1))
+
+cast-t12 : tie.Need-cast-t12
+cast-t12 c = omega (arith, few c)
+
+add-t13 : tie.Need-add-t13
+add-t13 c = omega (arith, few c)
+
+returns-2 : tie.Need-returns-2
+unfolding initCodeOf
+returns-2 c =
+    let p = c .before in
+    answered-good _ _ Refused (sym (p .before .code-refusal .ensures) ∙ p .if1 .left)
+    (ap (λ (n : ℕ). Value (n + 1600)) (c .value-at .ensures))
+
+pub rtc-calib-init-code-spec : {M : Type 1} → statement M
+rtc-calib-init-code-spec =
+    tie.close
+    (tie.spec
+    code-refusal-requires
+    returns
+    add-value-at
+    value-at-requires
+    cast-t12
+    add-t13
+    returns-2)

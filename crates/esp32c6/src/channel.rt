@@ -1,0 +1,62 @@
+// The C6's compensation by channel.
+use crate::field::ADC1_INIT_CODE_ATTEN0_CH0;
+use crate::field::get_signed_val;
+use crate::field::value_at;
+use efuse::decoding::decoding_refusal;
+use terms::chip::MapChip;
+use terms::refusal;
+use terms::refusal::Refusal;
+ghost use mathlib.Core.Path.{_≡_};
+ghost use Prim.Native.Nat.{_≤_, _<_, min};
+ghost use Rattle.efuse.specs.Field.{eight};
+ghost use Rattle.esp32c6.specs.Channel.{compensOf, chanCompensOf};
+
+const LAST_CHANNEL: u8 = 6;
+
+const CHAN_DIFF_SIGN_BIT: u32 = 3;
+
+// A compensation, or why there is none.
+pub enum Compens {
+    Value(i32),
+    Refused(Refusal),
+}
+
+// The channel whose field is used: channels 6 and up use channel 6.
+fn field_channel(channel: u8) -> u8
+    ensures { λ r. ⌜ r ≡ min channel 6 ⌝ }
+{
+    if channel < LAST_CHANNEL {
+        return channel;
+    }
+    LAST_CHANNEL
+}
+
+// A signed code of four bits, weighed by the attenuation.
+fn chan_compens(chan_diff: u32, atten: u8) -> i32
+    requires { ⌜ («chan_diff» < 16) × (atten ≤ 3) ⌝ }
+    ensures { λ r. ⌜ r ≡ compensOf atten «chan_diff» ⌝ }
+{
+    get_signed_val(chan_diff, CHAN_DIFF_SIGN_BIT) * ((4 - atten) as i32)
+}
+
+// A channel's compensation at an attenuation: from -28 to 28. Any channel is answered. Refusals 1, 7, the map's.
+pub fn rtc_calib_get_chan_compens(
+    dump: &[u32],
+    map: &[u8],
+    unit: u8,
+    channel: u8,
+    atten: u8,
+) -> Compens
+    ensures { λ r. ⌜ r ≡ chanCompensOf eight (now (dump .entry)) (now (map .entry)) unit channel atten ⌝ }
+{
+    let number = decoding_refusal(MapChip::C6, dump, map, unit, atten);
+    if number != refusal::NONE {
+        return Compens::Refused(Refusal { number });
+    }
+    let chan_diff = value_at(
+        dump,
+        map,
+        ADC1_INIT_CODE_ATTEN0_CH0 + (field_channel(channel) as usize),
+    );
+    Compens::Value(chan_compens(chan_diff, atten))
+}
