@@ -1,2 +1,6 @@
+pub mod Answers
+pub mod Conversions
+pub mod Points
 pub mod Records
+pub mod Sums
 pub mod Unique

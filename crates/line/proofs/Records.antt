@@ -1,9 +1,13 @@
--- Laws of the record check: a record that isn't refused is inside its ranges, and one inside them isn't refused. Assumes nothing.
-use mathlib.Core.Path.{_≡_}
-use mathlib.Core.Bool.{Bool}
-use Prim.Native.Nat.{_≤_}
+-- Laws of the record check: a record is refused, with 10, exactly where it is outside its ranges; and the refusals of a call that
+-- checks a record and then one thing more. Assumes nothing.
+use mathlib.Core.Path.{_≡_, refl, sym, _∙_}
+use mathlib.Core.Bool.{Bool, true, false, _||_}
+use mathlib.Core.Logic.{_⊎_, inl, inr}
+use Prim.Native.Nat.{ℕ, _≤_}
+use native.Mathlib.Omega.{arith}
 use lib.Dec.{ltb}
 use borrow.Author.Tests.{ltb-false, le-ltb}
+use Rattle.terms.specs.Refuse.{refuse, orElse}
 use Rattle.terms.proofs.Refusals.{refuse-none, or-none}
 use Rattle.line.specs.declared.record.LineRecord.{LineRecord}
 use Rattle.line.specs.Record.{recordRefusal}
@@ -14,6 +18,11 @@ pub record InRanges (r : LineRecord) : Type 0 where
   pub vref-least : 995 ≤ r .vref
   pub vref-most : r .vref ≤ 1205
   pub unit : r .unit ≤ 1
+
+-- a test with a number before others that give it or none
+one-number : (t : Bool) (n : ℕ) {after : ℕ} → (after ≡ 0) ⊎ (after ≡ n) → (refuse t n after ≡ 0) ⊎ (refuse t n after ≡ n)
+one-number true n h = inr refl
+one-number false n h = h
 
 module _ (r : LineRecord) where
   pub record-sound : recordRefusal r ≡ 0 → InRanges r
@@ -37,3 +46,22 @@ module _ (r : LineRecord) where
   unfolding recordRefusal
   record-good h =
       simp (le-ltb _ _ (h .a), le-ltb _ _ (h .b), le-ltb _ _ (h .vref-least), le-ltb _ _ (h .vref-most), le-ltb _ _ (h .unit))
+
+  record-number : (recordRefusal r ≡ 0) ⊎ (recordRefusal r ≡ 10)
+  unfolding recordRefusal
+  record-number =
+      one-number (ltb 131071 (r .«coeff_a»)) 10
+      (one-number (ltb 4095 (r .«coeff_b»)) 10
+      (one-number (ltb (r .vref) 995 || ltb 1205 (r .vref)) 10
+      (one-number (ltb 1 (r .unit)) 10 (inl refl))))
+
+  -- what is true of the refusal, by its three cases: 10, then a test's number
+  pub record-then : (t : Bool) (n : ℕ) (P : ℕ → Type 0)
+      → ((InRanges r → ⊥) → P 10) → (InRanges r → t ≡ true → P n) → (InRanges r → t ≡ false → P 0)
+      → P (orElse (recordRefusal r) (refuse t n 0))
+  record-then t n P outside second none = by-number t record-number refl
+    where
+      by-number : (s : Bool) → (recordRefusal r ≡ 0) ⊎ (recordRefusal r ≡ 10) → t ≡ s → P (orElse (recordRefusal r) (refuse t n 0))
+      by-number s (inr e) i = rw e (outside (λ p. let z : _≡_ {A = ℕ} 0 10 = sym (record-good p) ∙ e in omega arith))
+      by-number true (inl e) i = rw (e, i) (second (record-sound e) i)
+      by-number false (inl e) i = rw (e, i) (none (record-sound e) i)

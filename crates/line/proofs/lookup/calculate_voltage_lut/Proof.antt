@@ -1,0 +1,14 @@
+-- `line::calculate_voltage_lut` meets its contract: the slope's sum at the count itself, divided. Assumes nothing.
+use borrow.Author.Needs.{needs}
+use Rattle.line.proofs.Sums.{slope-here}
+use Rattle.line.proofs.lookup.calculate_voltage_lut.Statement.{statement}
+use Rattle.line.proofs.lookup.calculate_voltage_lut.Tie as tie
+
+slope-at-requires : tie.Need-slope-at-requires
+slope-at-requires c κs = search needs
+
+returns : tie.Need-returns
+returns c = slope-here _ _ (c .before .slope-at .ensures)
+
+pub calculate-voltage-lut-spec : {M : Type 1} → statement M
+calculate-voltage-lut-spec = tie.close (tie.spec slope-at-requires returns)

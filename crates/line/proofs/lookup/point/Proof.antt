@@ -1,0 +1,59 @@
+-- `line::point` meets its contract: by the tables' rules no difference is below zero, and all is small. Assumes nothing.
+use native.Mathlib.Omega.{arith}
+use borrow.Author.Needs.{needs}
+use Rattle.line.proofs.Points.{Made, point-made}
+use Rattle.line.proofs.lookup.point.Statement.{statement}
+use Rattle.line.proofs.lookup.point.Tie as tie
+
+mul-lut-row : tie.Need-mul-lut-row
+mul-lut-row c = search needs
+
+add-lut-row : tie.Need-add-lut-row
+add-lut-row c = search needs
+
+lut-row-requires : tie.Need-lut-row-requires
+lut-row-requires c κs = search needs
+
+-- the row's two numbers
+made : (c : tie.After-lut-row)
+    → let a = c .before .args in
+    Made (a .unit) (a .vref) (a .k) (c .lut-row .result .0) (c .lut-row .result .1)
+made c =
+    let p = c .before .pre in
+    point-made _ _ _ (p .0) (p .2) (p .1) (c .lut-row .ensures .0) (c .lut-row .ensures .1)
+
+mul-result : tie.Need-mul-result
+mul-result c = let m = made c in omega arith
+
+mul-result-2 : tie.Need-mul-result-2
+mul-result-2 c = let m = made c in omega arith
+
+sub-result : tie.Need-sub-result
+sub-result c = made c .apart
+
+sub-result-2 : tie.Need-sub-result-2
+sub-result-2 c = made c .order
+
+mul-result-3 : tie.Need-mul-result-3
+mul-result-3 c = let m = made c in omega arith
+
+add-result : tie.Need-add-result
+add-result c = let m = made c in omega arith
+
+returns : tie.Need-returns
+returns c = made c .is
+
+pub point-spec : {M : Type 1} → statement M
+point-spec =
+    tie.close
+    (tie.spec
+    mul-lut-row
+    add-lut-row
+    lut-row-requires
+    mul-result
+    mul-result-2
+    sub-result
+    sub-result-2
+    mul-result-3
+    add-result
+    returns)

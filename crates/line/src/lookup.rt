@@ -1,0 +1,121 @@
+// The lookup: voltages from count 2880 on, between points that stand 64 counts apart. In the crate: `calculate_voltage_lut`.
+use crate::record::LineRecord;
+ghost use mathlib.Core.Path.{_≡_};
+ghost use mathlib.Core.List.{_++_};
+ghost use Prim.Native.Nat.{_≤_, _<_};
+ghost use lib.ListN.{getD};
+ghost use Rattle.line.specs.Record.{recordRefusal};
+ghost use Rattle.line.specs.Lookup.{lutAdc1Low, lutAdc1High, lutAdc2Low, lutAdc2High, lookupVoltage};
+ghost use Rattle.line.specs.Walk.{pointAt, SlopeAt};
+
+pub(crate) const LUT_LOW_THRESH: u32 = 2880;
+
+pub(crate) const LUT_STEP: u32 = 64;
+
+pub(crate) const LUT_SCALE: u32 = 12800;
+
+const LUT_ROUND: u32 = 6400;
+
+const LUT_POINTS: u32 = 20;
+
+const LUT_VREF_LOW: u32 = 1000;
+
+const LUT_VREF_HIGH: u32 = 1200;
+
+// A row of the tables: millivolts at a Vref of 1000 and of 1200.
+pub(crate) struct Row(pub(crate) u32, pub(crate) u32);
+
+// Where the lookup stands at a count: `LUT_SCALE` times its voltage, rounding included, and what each count more adds to that.
+pub(crate) struct Slope {
+    pub(crate) sum: u32,
+    pub(crate) rise: u32,
+}
+
+// The crate's four tables, a row for each point: those of unit 0, then those of unit 1. As a `match` they are constant data, while a
+// constant array would be made anew at each use.
+fn lut_row(k: u32) -> Row
+    requires { ⌜ k < 40 ⌝ }
+    ensures { λ r. ⌜ (r .0 ≡ getD (lutAdc1Low ++ lutAdc2Low) k 0) × (r .1 ≡ getD (lutAdc1High ++ lutAdc2High) k 0) ⌝ }
+{
+    match k {
+        0 => Row(2240, 2667),
+        1 => Row(2297, 2706),
+        2 => Row(2352, 2745),
+        3 => Row(2405, 2780),
+        4 => Row(2457, 2813),
+        5 => Row(2512, 2844),
+        6 => Row(2564, 2873),
+        7 => Row(2616, 2901),
+        8 => Row(2664, 2928),
+        9 => Row(2709, 2956),
+        10 => Row(2754, 2982),
+        11 => Row(2795, 3006),
+        12 => Row(2832, 3032),
+        13 => Row(2868, 3059),
+        14 => Row(2903, 3084),
+        15 => Row(2937, 3110),
+        16 => Row(2969, 3135),
+        17 => Row(3000, 3160),
+        18 => Row(3030, 3184),
+        19 => Row(3060, 3209),
+        20 => Row(2238, 2657),
+        21 => Row(2293, 2698),
+        22 => Row(2347, 2738),
+        23 => Row(2399, 2774),
+        24 => Row(2451, 2807),
+        25 => Row(2507, 2838),
+        26 => Row(2561, 2867),
+        27 => Row(2613, 2894),
+        28 => Row(2662, 2921),
+        29 => Row(2710, 2946),
+        30 => Row(2754, 2971),
+        31 => Row(2792, 2996),
+        32 => Row(2831, 3020),
+        33 => Row(2869, 3043),
+        34 => Row(2904, 3067),
+        35 => Row(2937, 3092),
+        36 => Row(2968, 3116),
+        37 => Row(2999, 3139),
+        38 => Row(3029, 3162),
+        39 => Row(3059, 3185),
+        _ => Row(0, 0),
+    }
+}
+
+// `LUT_VREF_HIGH - LUT_VREF_LOW` times the millivolts at point k. The tables keep every difference here above zero.
+fn point(unit: u8, vref: u32, k: u32) -> u32
+    requires { ⌜ (unit ≤ 1) × (vref ≤ 1205) × (k < 20) ⌝ }
+    ensures { λ r. ⌜ r ≡ pointAt unit vref k ⌝ }
+{
+    let row = lut_row(LUT_POINTS * (unit as u32) + k);
+    let low = row.0;
+    let high = row.1;
+    LUT_VREF_HIGH * low - LUT_VREF_LOW * high + vref * (high - low)
+}
+
+// The lookup's slope at a count, up to the next point.
+pub(crate) fn slope_at(cal: LineRecord, raw: u32) -> Slope
+    requires { ⌜ (recordRefusal cal ≡ 0) × (2880 ≤ raw) × (raw ≤ 4095) ⌝ }
+    ensures { λ r. ⌜ SlopeAt cal raw r ⌝ }
+{
+    let unit = cal.unit;
+    let vref = cal.vref;
+    let past = raw - LUT_LOW_THRESH;
+    let i = past / LUT_STEP;
+    let place = past % LUT_STEP;
+    let here = point(unit, vref, i);
+    let there = point(unit, vref, i + 1);
+    Slope {
+        sum: here * (LUT_STEP - place) + there * place + LUT_ROUND,
+        rise: there - here,
+    }
+}
+
+// The lookup's millivolts at a count.
+pub(crate) fn calculate_voltage_lut(cal: LineRecord, raw: u32) -> u32
+    requires { ⌜ (recordRefusal cal ≡ 0) × (2880 ≤ raw) × (raw ≤ 4095) ⌝ }
+    ensures { λ r. ⌜ r ≡ lookupVoltage cal raw ⌝ }
+{
+    let slope = slope_at(cal, raw);
+    slope.sum / LUT_SCALE
+}
