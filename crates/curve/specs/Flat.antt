@@ -3,10 +3,10 @@
 use mathlib.Core.List.{List, [], _∷_, map, flatten}
 use mathlib.Core.Option.{Option, none, some}
 use Prim.Native.Nat.{ℕ, _+_}
-use lib.IntN.{ℤ, pos}
+use lib.IntN.{ℤ}
 use lib.ListN.{length, getD}
 use Rattle.curve.specs.declared.flat.Part.{Part}
-use Rattle.curve.specs.Decimal.{Decimal, coefficient}
+use Rattle.curve.specs.Decimal.{Decimal, plus, coefficient}
 use Rattle.curve.specs.Curves.{Table, byAtten}
 use Rattle.curve.specs.Curves.{c3Coeffs1, c5Coeffs1, c6Coeffs1, c61Coeffs1, c6Coeffs1V2, h2Coeffs1, p4Coeffs1, p4Coeffs2, s3Coeffs1, s3Coeffs2}
 
@@ -27,9 +27,12 @@ curves = flatten (map byAtten tables)
 unfoldable pub curveOf : ℕ → List ℤ
 curveOf k = map coefficient (getD curves k [])
 
--- their coefficients, one curve after the other
-unfoldable pub coefficients : List ℤ
-coefficients = flatten (map (map coefficient) curves)
+-- their decimals, one curve after the other
+unfoldable pub decimals : List Decimal
+decimals = flatten curves
+
+abbrev pub coefficientAt : ℕ → ℤ
+coefficientAt i = coefficient (getD decimals i (plus 0 0))
 
 -- where each curve starts among them, and how many it has; the first starts at n
 abbrev pub partsFrom : ℕ → List (List Decimal) → List Part

@@ -2,9 +2,7 @@
 // calibration/curve.rs. The curve of table t at attenuation a is curve 4 t + a. A coefficient has 52 fractional bits.
 ghost use mathlib.Core.Path.{_≡_};
 ghost use Prim.Native.Nat.{_<_};
-ghost use lib.IntN.{pos};
-ghost use lib.ListN.{getD};
-ghost use Rattle.curve.specs.Flat.{coefficients, partAt};
+ghost use Rattle.curve.specs.Flat.{partAt, coefficientAt};
 
 // The coefficients of a curve: a part of the flat table.
 pub(crate) struct Part {
@@ -67,7 +65,7 @@ pub(crate) fn part_of(k: u8) -> Part
 // which would be built anew at every call.
 pub(crate) fn coeff(i: u8) -> i64
     requires { ⌜ i < 109 ⌝ }
-    ensures { λ r. ⌜ r ≡ getD coefficients i (pos 0) ⌝ }
+    ensures { λ r. ⌜ r ≡ coefficientAt i ⌝ }
 {
     match i {
         0 => -1017662512342219, // esp32c3 CURVES_COEFFS1, 0 dB
