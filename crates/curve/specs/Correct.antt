@@ -44,9 +44,9 @@ abbrev pub numberOf : Corrected → ℕ
 numberOf (Answer m) = 0
 numberOf (Refused r) = r .number
 
-abbrev pub valueOf : Corrected → ℕ
-valueOf (Answer m) = m .0
-valueOf (Refused r) = 0
+abbrev pub valueOf : Corrected → Millivolt
+valueOf (Answer m) = m
+valueOf (Refused r) = record { 0 = 0 }
 
 -- the corrected line answer, or its refusal
 unfoldable pub correctOf : Chip → ℕ → ℕ → Millivolt → Corrected
