@@ -10,7 +10,6 @@ use borrow.Author.Tests.{lt-ltb, le-ltb}
 use Rattle.terms.proofs.Check.{Check, by, plain, also, at-most, rule}
 use Rattle.terms.proofs.Order.{either}
 use Rattle.curve.specs.Decimal.{Decimal, plus, minus, nearest, doublings}
-use Rattle.curve.specs.Curves.{c3Coeffs1, c5Coeffs1, c6Coeffs1, c61Coeffs1, c6Coeffs1V2, h2Coeffs1, p4Coeffs1, p4Coeffs2, s3Coeffs1, s3Coeffs2}
 use Rattle.curve.specs.Flat.{curves, decimals}
 
 -- q is within a half of n / d, and even where it is a half away
@@ -81,5 +80,5 @@ normal (plus digits places) = has-bits digits (10 ^ places) (doublings 128 digit
 normal (minus digits places) = has-bits digits (10 ^ places) (doublings 128 digits (10 ^ places))
 
 pub all-normal : (i : ℕ) → i < 109 → Normal (getD decimals i (plus 0 0))
-unfolding decimals curves flatten c3Coeffs1 c5Coeffs1 c6Coeffs1 c61Coeffs1 c6Coeffs1V2 h2Coeffs1 p4Coeffs1 p4Coeffs2 s3Coeffs1 s3Coeffs2 nearest doublings
+unfolding decimals curves flatten nearest doublings
 all-normal = rule (λ i. normal (getD decimals i (plus 0 0))) 109 tt

@@ -13,7 +13,6 @@ use Rattle.terms.proofs.Flatten.{flatten-at, flatten-in}
 use Rattle.curve.specs.declared.flat.Part.{Part}
 use Rattle.curve.specs.Decimal.{Decimal, plus, nearest, doublings, scaled, magnitude, coefficient}
 use Rattle.curve.specs.Curves.{Table, byAtten}
-use Rattle.curve.specs.Curves.{c3Coeffs1, c5Coeffs1, c6Coeffs1, c61Coeffs1, c6Coeffs1V2, h2Coeffs1, p4Coeffs1, p4Coeffs2, s3Coeffs1, s3Coeffs2}
 use Rattle.curve.specs.Table.{curveIn}
 use Rattle.curve.specs.Correct.{horner}
 use Rattle.curve.specs.Flat.{tables, numbered, curves, curveOf, decimals, coefficientAt, partsFrom, partAt}
@@ -47,7 +46,7 @@ unfolding curves flatten
 all-curves = refl
 
 all-decimals : length decimals ≡ 109
-unfolding decimals curves flatten c3Coeffs1 c5Coeffs1 c6Coeffs1 c61Coeffs1 c6Coeffs1V2 h2Coeffs1 p4Coeffs1 p4Coeffs2 s3Coeffs1 s3Coeffs2
+unfolding decimals curves flatten
 all-decimals = refl
 
 length-curve : (curve : List Decimal) → length (map coefficient curve) ≡ length curve

@@ -6,7 +6,6 @@ use lib.IntN.{ℤ}
 use Rattle.terms.proofs.Check.{Check, by, also, rule}
 use Rattle.terms.proofs.Order.{either}
 use Rattle.curve.specs.Decimal.{nearest, doublings, scaled, magnitude, coefficient}
-use Rattle.curve.specs.Curves.{c3Coeffs1, c5Coeffs1, c6Coeffs1, c61Coeffs1, c6Coeffs1V2, h2Coeffs1, p4Coeffs1, p4Coeffs2, s3Coeffs1, s3Coeffs2}
 use Rattle.curve.specs.Flat.{curves, curveOf}
 use Rattle.curve.proofs.Spans.{Over, Steps, Below, steady, room}
 
@@ -17,5 +16,5 @@ abbrev sound : (cs : List ℤ) → Check (Over 1 4095 (Steps cs) × Over 1 4095 
 sound cs = also (halves (steady 1 2047 cs) (steady 2048 4095 cs)) (halves (room 1 2047 cs) (room 2048 4095 cs))
 
 pub curves-sound : (k : ℕ) → k < 40 → Over 1 4095 (Steps (curveOf k)) × Over 1 4095 (Below (curveOf k))
-unfolding curveOf curves flatten c3Coeffs1 c5Coeffs1 c6Coeffs1 c61Coeffs1 c6Coeffs1V2 h2Coeffs1 p4Coeffs1 p4Coeffs2 s3Coeffs1 s3Coeffs2 coefficient magnitude scaled nearest doublings
+unfolding curveOf curves flatten coefficient magnitude scaled nearest doublings
 curves-sound = rule (λ k. sound (curveOf k)) 40 tt

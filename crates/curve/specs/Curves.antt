@@ -20,7 +20,7 @@ abbrev pub curveAt : Table → ℕ → List Decimal
 curveAt t atten = getD (byAtten t) atten []
 
 -- esp32c3, CURVES_COEFFS1: 903af13e8, components/esp_adc/esp32c3/curve_fitting_coefficients.c
-unfoldable pub c3Coeffs1 : Table
+abbrev pub c3Coeffs1 : Table
 c3Coeffs1 =
     record {
       dB0 = minus 225966470500043 15 ∷ minus 7265418501948 16 ∷ plus 109410402681 16 ∷ [];
@@ -30,7 +30,7 @@ c3Coeffs1 =
     }
 
 -- esp32c5, CURVES_COEFFS1: c602e55, components/esp_adc/esp32c5/curve_fitting_coefficients.c
-unfoldable pub c5Coeffs1 : Table
+abbrev pub c5Coeffs1 : Table
 c5Coeffs1 =
     record {
       dB0 = minus 2941017829027464 16 ∷ plus 7368674918527 16 ∷ plus 0 1 ∷ [];
@@ -40,7 +40,7 @@ c5Coeffs1 =
     }
 
 -- esp32c6, CURVES_COEFFS1: 027613140, components/esp_adc/esp32c6/curve_fitting_coefficients.c, lines 29 to 35
-unfoldable pub c6Coeffs1 : Table
+abbrev pub c6Coeffs1 : Table
 c6Coeffs1 =
     record {
       dB0 = minus 487166399931449 16 ∷ plus 6436483033201 16 ∷ plus 30410131806 16 ∷ [];
@@ -50,7 +50,7 @@ c6Coeffs1 =
     }
 
 -- esp32c61, CURVES_COEFFS1: 1e76669a8, components/esp_adc/esp32c61/curve_fitting_coefficients.c
-unfoldable pub c61Coeffs1 : Table
+abbrev pub c61Coeffs1 : Table
 c61Coeffs1 =
     record {
       dB0 = minus 8668885650149671 16 ∷ plus 15630376830615 16 ∷ [];
@@ -60,7 +60,7 @@ c61Coeffs1 =
     }
 
 -- esp32c6, CURVES_COEFFS1_V2: 027613140, components/esp_adc/esp32c6/curve_fitting_coefficients.c, lines 36 to 42
-unfoldable pub c6Coeffs1V2 : Table
+abbrev pub c6Coeffs1V2 : Table
 c6Coeffs1V2 =
     record {
       dB0 = [];
@@ -70,7 +70,7 @@ c6Coeffs1V2 =
     }
 
 -- esp32h2, CURVES_COEFFS1: 465b159cd, components/esp_adc/esp32h2/curve_fitting_coefficients.c
-unfoldable pub h2Coeffs1 : Table
+abbrev pub h2Coeffs1 : Table
 h2Coeffs1 =
     record {
       dB0 = minus 5081991760658888 16 ∷ plus 7858995319 16 ∷ plus 0 0 ∷ [];
@@ -80,7 +80,7 @@ h2Coeffs1 =
     }
 
 -- esp32p4, CURVES_COEFFS1: 08e0d30a7, components/esp_adc/esp32p4/curve_fitting_coefficients.c
-unfoldable pub p4Coeffs1 : Table
+abbrev pub p4Coeffs1 : Table
 p4Coeffs1 =
     record {
       dB0 = minus 7170501832480995 16 ∷ plus 10598497992115 16 ∷ [];
@@ -90,7 +90,7 @@ p4Coeffs1 =
     }
 
 -- esp32p4, CURVES_COEFFS2: 08e0d30a7, components/esp_adc/esp32p4/curve_fitting_coefficients.c
-unfoldable pub p4Coeffs2 : Table
+abbrev pub p4Coeffs2 : Table
 p4Coeffs2 =
     record {
       dB0 = minus 4900967548489932 16 ∷ plus 5037402667913 16 ∷ [];
@@ -100,7 +100,7 @@ p4Coeffs2 =
     }
 
 -- esp32s3, CURVES_COEFFS1: 903af13e8, components/esp_adc/esp32s3/curve_fitting_coefficients.c
-unfoldable pub s3Coeffs1 : Table
+abbrev pub s3Coeffs1 : Table
 s3Coeffs1 =
     record {
       dB0 = minus 27856531419538344 16 ∷ minus 50871540569528 16 ∷ plus 97982495890 16 ∷ [];
@@ -110,7 +110,7 @@ s3Coeffs1 =
     }
 
 -- esp32s3, CURVES_COEFFS2: 903af13e8, components/esp_adc/esp32s3/curve_fitting_coefficients.c
-unfoldable pub s3Coeffs2 : Table
+abbrev pub s3Coeffs2 : Table
 s3Coeffs2 =
     record {
       dB0 = minus 25668651654328927 16 ∷ plus 1353548869615 16 ∷ plus 36615265189 16 ∷ [];

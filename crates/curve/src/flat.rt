@@ -1,69 +1,68 @@
-// The crate's ten tables of coefficients as one flat table, with each curve's start in it and length: `coeff_tables!` of its
-// calibration/curve.rs. The curve of table t at attenuation a is curve 4 t + a. A coefficient has 52 fractional bits.
+// The crate's ten tables of coefficients as one flat table, with each curve's start in it and its length: `coeff_tables!` of
+// calibration/curve.rs. The curve of table t at attenuation a is curve 4 t + a. Both are a `match`, which compiles to constant data; a
+// constant array would be built anew at every call.
 ghost use mathlib.Core.Path.{_≡_};
 ghost use Prim.Native.Nat.{_<_};
 ghost use Rattle.curve.specs.Flat.{partAt, coefficientAt};
 
 // The coefficients of a curve: a part of the flat table.
 pub(crate) struct Part {
-    pub(crate) start: u8,
-    pub(crate) len: u8,
+    pub(crate) start: usize,
+    pub(crate) len: usize,
 }
 
-const PARTS: [Part; 40] = [
-    Part { start: 0, len: 3 }, // esp32c3 CURVES_COEFFS1
-    Part { start: 3, len: 3 },
-    Part { start: 6, len: 3 },
-    Part { start: 9, len: 5 },
-    Part { start: 14, len: 3 }, // esp32c5 CURVES_COEFFS1
-    Part { start: 17, len: 3 },
-    Part { start: 20, len: 3 },
-    Part { start: 23, len: 3 },
-    Part { start: 26, len: 3 }, // esp32c6 CURVES_COEFFS1
-    Part { start: 29, len: 3 },
-    Part { start: 32, len: 3 },
-    Part { start: 35, len: 3 },
-    Part { start: 38, len: 2 }, // esp32c61 CURVES_COEFFS1
-    Part { start: 40, len: 2 },
-    Part { start: 42, len: 2 },
-    Part { start: 44, len: 3 },
-    Part { start: 47, len: 0 }, // esp32c6 CURVES_COEFFS1_V2
-    Part { start: 47, len: 0 },
-    Part { start: 47, len: 3 },
-    Part { start: 50, len: 3 },
-    Part { start: 53, len: 3 }, // esp32h2 CURVES_COEFFS1
-    Part { start: 56, len: 3 },
-    Part { start: 59, len: 3 },
-    Part { start: 62, len: 3 },
-    Part { start: 65, len: 2 }, // esp32p4 CURVES_COEFFS1
-    Part { start: 67, len: 2 },
-    Part { start: 69, len: 2 },
-    Part { start: 71, len: 2 },
-    Part { start: 73, len: 2 }, // esp32p4 CURVES_COEFFS2
-    Part { start: 75, len: 2 },
-    Part { start: 77, len: 2 },
-    Part { start: 79, len: 2 },
-    Part { start: 81, len: 3 }, // esp32s3 CURVES_COEFFS1
-    Part { start: 84, len: 3 },
-    Part { start: 87, len: 3 },
-    Part { start: 90, len: 5 },
-    Part { start: 95, len: 3 }, // esp32s3 CURVES_COEFFS2
-    Part { start: 98, len: 3 },
-    Part { start: 101, len: 3 },
-    Part { start: 104, len: 5 },
-];
-
-// The part of curve k.
+// Where curve k starts, and how many coefficients it has.
 pub(crate) fn part_of(k: u8) -> Part
     requires { ⌜ k < 40 ⌝ }
     ensures { λ r. ⌜ r ≡ partAt k ⌝ }
 {
-    PARTS[k as usize]
+    match k {
+        0 => Part { start: 0, len: 3 }, // esp32c3 CURVES_COEFFS1
+        1 => Part { start: 3, len: 3 },
+        2 => Part { start: 6, len: 3 },
+        3 => Part { start: 9, len: 5 },
+        4 => Part { start: 14, len: 3 }, // esp32c5 CURVES_COEFFS1
+        5 => Part { start: 17, len: 3 },
+        6 => Part { start: 20, len: 3 },
+        7 => Part { start: 23, len: 3 },
+        8 => Part { start: 26, len: 3 }, // esp32c6 CURVES_COEFFS1
+        9 => Part { start: 29, len: 3 },
+        10 => Part { start: 32, len: 3 },
+        11 => Part { start: 35, len: 3 },
+        12 => Part { start: 38, len: 2 }, // esp32c61 CURVES_COEFFS1
+        13 => Part { start: 40, len: 2 },
+        14 => Part { start: 42, len: 2 },
+        15 => Part { start: 44, len: 3 },
+        16 => Part { start: 47, len: 0 }, // esp32c6 CURVES_COEFFS1_V2
+        17 => Part { start: 47, len: 0 },
+        18 => Part { start: 47, len: 3 },
+        19 => Part { start: 50, len: 3 },
+        20 => Part { start: 53, len: 3 }, // esp32h2 CURVES_COEFFS1
+        21 => Part { start: 56, len: 3 },
+        22 => Part { start: 59, len: 3 },
+        23 => Part { start: 62, len: 3 },
+        24 => Part { start: 65, len: 2 }, // esp32p4 CURVES_COEFFS1
+        25 => Part { start: 67, len: 2 },
+        26 => Part { start: 69, len: 2 },
+        27 => Part { start: 71, len: 2 },
+        28 => Part { start: 73, len: 2 }, // esp32p4 CURVES_COEFFS2
+        29 => Part { start: 75, len: 2 },
+        30 => Part { start: 77, len: 2 },
+        31 => Part { start: 79, len: 2 },
+        32 => Part { start: 81, len: 3 }, // esp32s3 CURVES_COEFFS1
+        33 => Part { start: 84, len: 3 },
+        34 => Part { start: 87, len: 3 },
+        35 => Part { start: 90, len: 5 },
+        36 => Part { start: 95, len: 3 }, // esp32s3 CURVES_COEFFS2
+        37 => Part { start: 98, len: 3 },
+        38 => Part { start: 101, len: 3 },
+        39 => Part { start: 104, len: 5 },
+        _ => Part { start: 0, len: 0 },
+    }
 }
 
-// Coefficient i of the flat table; of each curve the constant coefficient comes first. This is a `match` and no constant array,
-// which would be built anew at every call.
-pub(crate) fn coeff(i: u8) -> i64
+// Coefficient i of the flat table, with 52 fractional bits; of each curve the constant coefficient comes first.
+pub(crate) fn coeff(i: usize) -> i64
     requires { ⌜ i < 109 ⌝ }
     ensures { λ r. ⌜ r ≡ coefficientAt i ⌝ }
 {

@@ -4,7 +4,6 @@ use mathlib.Core.List.{flatten}
 use borrow.Author.Needs.{needs}
 use Rattle.terms.proofs.Arms.{never}
 use Rattle.curve.specs.Decimal.{nearest, doublings, scaled, magnitude, coefficient}
-use Rattle.curve.specs.Curves.{c3Coeffs1, c5Coeffs1, c6Coeffs1, c61Coeffs1, c6Coeffs1V2, h2Coeffs1, p4Coeffs1, p4Coeffs2, s3Coeffs1, s3Coeffs2}
 use Rattle.curve.specs.Flat.{curves, decimals}
 use Rattle.curve.proofs.flat.coeff.Statement.{statement}
 use Rattle.curve.proofs.flat.coeff.Tie as tie
@@ -13,7 +12,7 @@ last : tie.Need-returns-110
 last c = absurd (never _ 109 (c .match .rest) (search needs))
 
 pub coeff-spec : {M : Type 1} → statement M
-unfolding decimals curves flatten c3Coeffs1 c5Coeffs1 c6Coeffs1 c61Coeffs1 c6Coeffs1V2 h2Coeffs1 p4Coeffs1 p4Coeffs2 s3Coeffs1 s3Coeffs2 coefficient magnitude scaled nearest doublings
+unfolding decimals curves flatten coefficient magnitude scaled nearest doublings
 coeff-spec =
     tie.close
     (tie.spec
