@@ -13,7 +13,7 @@ use borrow.Author.Tests.{ne-eqb}
 use Rattle.terms.proofs.Whole.{up, dn, sum-is, up-neg, dn-neg, up-quot, dn-quot, not-negative, fits-by}
 use Rattle.curve.specs.Decimal.{Decimal, coefficient}
 use Rattle.curve.specs.Table.{curveIn}
-use Rattle.curve.specs.Correct.{horner, errorOf, correctedOf}
+use Rattle.curve.specs.Correct.{horner, errorOf}
 use Rattle.curve.specs.Flat.{numbered, curveOf}
 use Rattle.curve.proofs.Parts.{curve-of}
 use Rattle.curve.proofs.Sound.{curves-sound}
@@ -24,7 +24,8 @@ pub error-zero : (curve : List Decimal) → errorOf curve 0 ≡ pos 0
 unfolding errorOf
 error-zero curve = refl
 
-pub error-quot : (curve : List Decimal) (v : ℕ) → (v ≡ 0 → ⊥) → errorOf curve v ≡ quotZ (horner (map coefficient curve) v) (pos (2 ^ 52))
+error-quot : (curve : List Decimal) (v : ℕ) → (v ≡ 0 → ⊥)
+    → errorOf curve v ≡ quotZ (horner (map coefficient curve) v) (pos (2 ^ 52))
 unfolding errorOf horner
 error-quot [] v h = rw (ne-eqb v 0 h)
 error-quot (d ∷ ds) v h = rw (ne-eqb v 0 h, ne-eqb (length (d ∷ ds)) 0 (λ e. omega arith))
@@ -59,7 +60,7 @@ dn-bound : (p : ℤ) → SFits w64 p → dn p / 2 ^ 52 ≤ 2 ^ 11
 dn-bound (pos n) f = omega arith
 dn-bound (negsuc n) f = omega (arith, f .sfits)
 
-pub exact-quot : (v : ℕ) (p : ℤ) → v ≤ 4095 → SFits w64 p → up p < dn p + (v + 1) * 2 ^ 52 → Exact v (quotZ p (pos (2 ^ 52)))
+exact-quot : (v : ℕ) (p : ℤ) → v ≤ 4095 → SFits w64 p → up p < dn p + (v + 1) * 2 ^ 52 → Exact v (quotZ p (pos (2 ^ 52)))
 exact-quot v p most f h =
     exact v _ most
     (omega (arith, up-quot p (2 ^ 52), up-bound v p h))

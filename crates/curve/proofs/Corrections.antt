@@ -18,7 +18,7 @@ use Rattle.curve.specs.Decimal.{Decimal}
 use Rattle.curve.specs.Table.{tableOf, missing, curveIn}
 use Rattle.curve.specs.Correct.{errorOf, correctedOf, correctRefusal, numberOf, valueOf, correctOf}
 use Rattle.curve.specs.Flat.{numbered}
-use Rattle.curve.proofs.Answers.{Exact, error-exact}
+use Rattle.curve.proofs.Answers.{error-exact}
 use Rattle.curve.proofs.Tables.{numbered-some, numbered-none, table-number, number-below}
 
 -- "Given exactly when", each where none before it is given; 0 where the call isn't turned down
@@ -45,14 +45,13 @@ module _ (chip : Chip) (unit atten : ℕ) (line : Millivolt) where
   pub refusal-when : When chip unit atten line (correctRefusal chip unit atten line)
   refusal-when =
       either unit 1
-      (λ u. either atten 3
-      (λ a. by-table (missing (tableOf chip unit)) refl u a)
-      (λ a. given (atten-above a)))
+      (λ u. either atten 3 (λ a. by-table u a (missing (tableOf chip unit)) refl) (λ a. given (atten-above a)))
       (λ u. given (unit-above u))
     where
-      by-table : (b : Bool) → missing (tableOf chip unit) ≡ b → unit ≤ 1 → atten ≤ 3 → When chip unit atten line (correctRefusal chip unit atten line)
-      by-table true t u a = given (no-curve u a t)
-      by-table false t u a = either (line .0) 4095 (λ l. given (accepted u a t l)) (λ l. given (line-above u a t l))
+      by-table : unit ≤ 1 → atten ≤ 3 → (b : Bool) → missing (tableOf chip unit) ≡ b
+          → When chip unit atten line (correctRefusal chip unit atten line)
+      by-table u a true t = given (no-curve u a t)
+      by-table u a false t = either (line .0) 4095 (λ l. given (accepted u a t l)) (λ l. given (line-above u a t l))
 
   -- a call that isn't turned down
   when-none : {n : ℕ} → When chip unit atten line n → n ≡ 0
@@ -77,7 +76,8 @@ module _ (chip : Chip) (unit atten : ℕ) (line : Millivolt) where
       rw (← number .1) (sym (exact .whole), exact .small)
 
   -- which case an answer is, as a `return` asks it
-  pub correct-unit : {n : ℕ} → n ≡ unitRefusal unit atten → (n ≡ 0 → ⊥) → Refused (record { number = n }) ≡ correctOf chip unit atten line
+  pub correct-unit : {n : ℕ} → n ≡ unitRefusal unit atten → (n ≡ 0 → ⊥)
+      → Refused (record { number = n }) ≡ correctOf chip unit atten line
   unfolding correctOf correctRefusal
   correct-unit e h = answered-refused _ _ Refused (e ∙ sym (orElse-some _ _ (λ z. h (e ∙ z)))) h
 

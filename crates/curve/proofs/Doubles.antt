@@ -1,6 +1,6 @@
--- What the rule of the coefficients means: `nearest` is within a half, a tie even; and of every decimal but 0 the number that it is
--- taken of has 53 bits, so that it makes the nearest double. Assumes nothing.
-use mathlib.Core.Path.{_≡_, refl, _∙_, ap}
+-- What the rule of the coefficients means: `nearest` is within a half, and even at a half; and for each of the 109 decimals but 0 it gives
+-- 53 bits, no more and no fewer, so that it makes the nearest double. Assumes nothing.
+use mathlib.Core.Path.{_≡_, _∙_, ap}
 use mathlib.Core.List.{flatten}
 use Prim.Native.Nat.{ℕ, zero, suc, _+_, _*_, _/_, _%_, _^_, _≤_, _<_}
 use native.Mathlib.Nat.{div-add-mod, mod-lt, mul-add, mul-one}
@@ -63,22 +63,25 @@ module _ (n d : ℕ) (some : 0 < d) where
       (λ more. rw (lt-ltb d (2 * r) more) (strictly n d (q + 1) (omega (arith, whole, next)) (omega (arith, whole, next))))))
       (λ few. rw (lt-ltb (2 * r) d few) (strictly n d q (omega (arith, whole)) (omega (arith, whole))))
 
--- the number that makes the double, and its 53 bits
-abbrev bits53 : ℕ → ℕ → ℕ → Type 0
-bits53 n d e = (2 ^ 52 ≤ nearest (n * 2 ^ e) d) × (nearest (n * 2 ^ e) d < 2 ^ 53)
+-- the size of a decimal is digits / tens, and its double's is doubled over a power of two
+abbrev digits : Decimal → ℕ
+digits (plus n places) = n
+digits (minus n places) = n
 
-abbrev Normal : Decimal → Type 0
-Normal (plus digits places) = 0 < digits → bits53 digits (10 ^ places) (doublings 128 digits (10 ^ places))
-Normal (minus digits places) = 0 < digits → bits53 digits (10 ^ places) (doublings 128 digits (10 ^ places))
+abbrev tens : Decimal → ℕ
+tens (plus n places) = 10 ^ places
+tens (minus n places) = 10 ^ places
 
-abbrev has-bits : (n d e : ℕ) → Check (0 < n → bits53 n d e)
-has-bits zero d e = plain (λ h. absurd (omega arith))
-has-bits (suc n) d e = by (λ p h. p) (also (at-most (2 ^ 52) (nearest (suc n * 2 ^ e) d)) (at-most (suc (nearest (suc n * 2 ^ e) d)) (2 ^ 53)))
+abbrev doubled : Decimal → ℕ
+doubled x = nearest (digits x * 2 ^ doublings 128 (digits x) (tens x)) (tens x)
 
-abbrev normal : (x : Decimal) → Check (Normal x)
-normal (plus digits places) = has-bits digits (10 ^ places) (doublings 128 digits (10 ^ places))
-normal (minus digits places) = has-bits digits (10 ^ places) (doublings 128 digits (10 ^ places))
+abbrev has53 : (n q : ℕ) → Check (0 < n → (2 ^ 52 ≤ q) × (q < 2 ^ 53))
+has53 zero q = plain (λ h. absurd (omega arith))
+has53 (suc n) q = by (λ p h. p) (also (at-most (2 ^ 52) q) (at-most (suc q) (2 ^ 53)))
 
-pub all-normal : (i : ℕ) → i < 109 → Normal (getD decimals i (plus 0 0))
+abbrev decimal : ℕ → Decimal
+decimal i = getD decimals i (plus 0 0)
+
+pub all-53 : (i : ℕ) → i < 109 → 0 < digits (decimal i) → (2 ^ 52 ≤ doubled (decimal i)) × (doubled (decimal i) < 2 ^ 53)
 unfolding decimals curves flatten nearest doublings
-all-normal = rule (λ i. normal (getD decimals i (plus 0 0))) 109 tt
+all-53 = rule (λ i. has53 (digits (decimal i)) (doubled (decimal i))) 109 tt

@@ -33,7 +33,8 @@ curve-of t a h = ap (map coefficient) (by-fours tables t a h)
 
 -- where the parts start, and how long they are
 parts-at : (n : ℕ) (cs : List (List Decimal)) (k : ℕ) → k < length cs → (past : Part)
-    → (getD (partsFrom n cs) k past .start ≡ n + length (flatten (take k cs))) × (getD (partsFrom n cs) k past .len ≡ length (getD cs k []))
+    → (getD (partsFrom n cs) k past .start ≡ n + length (flatten (take k cs)))
+    × (getD (partsFrom n cs) k past .len ≡ length (getD cs k []))
 unfolding flatten
 parts-at n [] k h past = absurd (omega arith)
 parts-at n (c ∷ cs) zero h past = (omega arith, refl)
@@ -76,7 +77,7 @@ module _ (k : ℕ) (h : k < 40) where
     unfolding decimals
     part-in = omega (arith, flatten-in curves k i here, part .0, all-decimals)
 
-    pub part-at : coefficientAt (partAt k .start + i) ≡ getD (curveOf k) i (pos 0)
+    part-at : coefficientAt (partAt k .start + i) ≡ getD (curveOf k) i (pos 0)
     unfolding decimals curveOf
     part-at =
         rw (part .0, flatten-at curves k i (plus 0 0) here, ← zero-decimal)

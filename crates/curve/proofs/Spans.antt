@@ -1,7 +1,6 @@
 -- Horner's rule by intervals: from what a line answer lies between follows what each step's product and sum lie between, and so, by a
 -- test that antt computes, that they fit 64 bits and that the polynomial stays below 2^52 times one more than the line answer.
 -- Assumes nothing.
-use mathlib.Core.Path.{_≡_, ap}
 use mathlib.Core.List.{List, [], _∷_}
 use Prim.Native.Nat.{ℕ, zero, suc, _+_, _*_, _≤_, _<_, _^_}
 use native.Mathlib.Nat.{mul-le-mul-left, mul-le-mul-right, add-mul}
@@ -128,8 +127,8 @@ below-by a b c cs p v least most =
     let q : ℤ = horner cs v in
     let high : ℤ = span a b cs .high -ℤ pos (2 ^ 52) in
     let off = minus q (2 ^ 52) in
-    let under : q -ℤ pos (2 ^ 52) ≼ high =
-    omega (arith, off .is, minus (span a b cs .high) (2 ^ 52) .is, within-span least most cs .high) in
+    let top = minus (span a b cs .high) (2 ^ 52) in
+    let under : q -ℤ pos (2 ^ 52) ≼ high = omega (arith, off .is, top .is, within-span least most cs .high) in
     omega (
       arith,
       stretch-high least most high (q -ℤ pos (2 ^ 52)) under,

@@ -26,7 +26,7 @@ errorOf curve line =
     cond (eqb line 0 || eqb (length curve) 0) (pos 0)
     (quotZ (horner (map coefficient curve) line) (pos (2 ^ 52)))
 
--- the line answer less its error. That is never negative, so that its size is all of it: `Answers.nothing-lost`
+-- the line answer less its error. That is never negative, so that its size is all of it: `Corrections.nothing-lost`
 unfoldable pub correctedOf : List Decimal → ℕ → ℕ
 correctedOf curve line = natAbs (pos line -ℤ errorOf curve line)
 

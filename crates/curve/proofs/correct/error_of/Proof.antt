@@ -1,9 +1,9 @@
 -- `curve::correct::error_of` meets its contract: where the line answer isn't 0, the error is the polynomial over 2^52, which fits.
 -- Assumes nothing.
-use mathlib.Core.Path.{_≡_, sym, _∙_, ap}
+use mathlib.Core.Path.{_≡_, sym, _∙_}
 use Prim.Native.Nat.{_^_}
 use native.Mathlib.Omega.{arith}
-use lib.IntN.{ℤ, pos}
+use lib.IntN.{pos}
 use lib.Signed.{quotZ}
 use mir.Syntax.{w64}
 use mir.Val.{toZ, ofZ}

@@ -1,12 +1,9 @@
 -- `curve::correct::poly_at` meets its contract: at each turn `poly` is the polynomial of the curve's coefficients from i on, so that one
--- coefficient more is `part-step`; the spans say that each step fits. Assumes nothing.
-use mathlib.Core.Path.{_≡_, sym, _∙_, ap}
-use mathlib.Core.List.{List}
-use Prim.Native.Nat.{ℕ, suc, _+_, _-_, _≤_, _<_}
+-- coefficient more is `walk-more`, which fits. Assumes nothing.
+use mathlib.Core.Path.{_≡_, _∙_}
+use Prim.Native.Nat.{_+_, _-_, _≤_, _<_}
 use native.Mathlib.Omega.{arith}
-use lib.IntN.{ℤ}
 use lib.ListN.{length, drop}
-use lib.Seq.{drop-length}
 use mir.Syntax.{w64}
 use mir.Val.{toZ, ofZ}
 use mir.ValLaws.{toZ-ofZ}
@@ -32,6 +29,7 @@ loop-holds c = walk-start _ _ (c .before .pre .0) (c .part-of .ensures)
 sub-i : tie.Need-sub-i Inv-loop μ-loop
 sub-i c = search needs
 
+-- the coefficient's place in the flat table
 place : (c : tie.In-loop Inv-loop μ-loop) → c .before .before .part-of .result .start + (c .before .loop .i - 1) < 109
 place c =
     let p = c .before .before in
@@ -43,14 +41,18 @@ add-coeff c = omega (arith, place c)
 coeff-requires : tie.Need-coeff-requires Inv-loop μ-loop
 coeff-requires c κs = place c
 
-coeff-back : (c : tie.After-coeff Inv-loop μ-loop) → toZ w64 (ofZ w64 (c .coeff .result)) ≡ coefficientAt (c .before .before .before .part-of .result .start + (c .before .before .loop .i - 1))
+-- what the machine reads back of the coefficient
+coeff-back : (c : tie.After-coeff Inv-loop μ-loop)
+    → let start = c .before .before .before .part-of .result .start in
+    toZ w64 (ofZ w64 (c .coeff .result)) ≡ coefficientAt (start + (c .before .before .loop .i - 1))
 coeff-back c = toZ-ofZ w64 _ (sfits-of (c .coeff .ok)) ∙ c .coeff .ensures
 
 step-requires : tie.Need-step-requires Inv-loop μ-loop
 step-requires c κs =
     let p = c .before .before .before in
     let l = c .before .before .loop in
-    walk-fits _ _ (p .before .pre .0) (p .part-of .ensures) _ (c .before .loop-test .taken) (l .inv .0) (l .inv .1) (coeff-back c)
+    let some = c .before .loop-test .taken in
+    walk-fits _ _ (p .before .pre .0) (p .part-of .ensures) _ some (l .inv .0) (l .inv .1) (coeff-back c)
     (p .before .pre .1) (p .before .pre .2)
 
 loop-less : tie.Need-loop-less Inv-loop μ-loop
@@ -59,11 +61,10 @@ loop-less c = search needs
 loop-again : tie.Need-loop-again Inv-loop μ-loop
 loop-again c =
     let p = c .before .before .before .before in
-    let l = c .before .before .before .loop in (
-      omega (arith, l .inv .0),
-      toZ-ofZ w64 _ (sfits-of (c .step .ok)) ∙ c .step .ensures
-          ∙ walk-more _ _ (p .before .pre .0) (p .part-of .ensures) _ (c .before .before .loop-test .taken) (l .inv .0) (l .inv .1) (coeff-back (c .before)),
-    )
+    let l = c .before .before .before .loop in
+    let some = c .before .before .loop-test .taken in
+    let more = walk-more _ _ (p .before .pre .0) (p .part-of .ensures) _ some (l .inv .0) (l .inv .1) (coeff-back (c .before)) in
+    (omega (arith, l .inv .0), toZ-ofZ w64 _ (sfits-of (c .step .ok)) ∙ c .step .ensures ∙ more)
 
 returns : tie.Need-returns Inv-loop μ-loop
 returns c =

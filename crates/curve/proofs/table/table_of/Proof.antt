@@ -1,5 +1,4 @@
 -- `curve::table::table_of` meets its contract: the test says which of the two the definition takes. Assumes nothing.
-use mathlib.Core.Path.{_∙_}
 use borrow.Author.Needs.{needs}
 use borrow.Author.Tests.{eq-eqb, ne-eqb}
 use Rattle.curve.specs.Table.{tableOf}
