@@ -7,7 +7,7 @@ use native.Mathlib.Nat.{mul-sub, mul-le-mul, mul-le-mul-left, mul-le-mul-right}
 use native.Mathlib.Omega.{arith}
 use lib.Dec.{ltb}
 use borrow.Author.Tests.{lt-ltb, le-ltb, lt-leb, le-leb, ltb-false}
-use Rattle.terms.proofs.Order.{either}
+use Rattle.terms.proofs.Order.{either, whether}
 use Rattle.line.specs.declared.record.LineRecord.{LineRecord}
 use Rattle.line.specs.Record.{usesLookup, recordRefusal}
 use Rattle.line.specs.Lookup.{lookupVoltage}
@@ -46,6 +46,15 @@ module _ (y1 y2 x : ℕ) (h : x ≤ 64) where
         mul-le-mul-right x q,
       )
 
+-- it starts at the first and ends at the second
+pub blend-first : (y1 y2 : ℕ) → blendOf y1 y2 0 ≡ y1
+unfolding blendOf
+blend-first y1 y2 = omega arith
+
+pub blend-last : (y1 y2 : ℕ) → blendOf y1 y2 64 ≡ y2
+unfolding blendOf
+blend-last y1 y2 = omega arith
+
 or-true : (t : Bool) → t || true ≡ true
 or-true true = refl
 or-true false = refl
@@ -69,6 +78,15 @@ module _ (r : LineRecord) (raw : ℕ) where
   unfolding answerAt
   answer-lookup e h = let l : 2880 ≤ raw = omega arith in simp (e, le-ltb _ _ l, lt-leb _ _ h)
 
+  -- at 2944 the blend is the lookup's
+  pub answer-upper : usesLookup r ≡ true → 2944 ≤ raw → answerAt r raw ≡ lookupVoltage r raw
+  answer-upper e h =
+      either raw 2944
+      (λ last.
+      let gone : raw - 2880 ≡ 64 = omega arith in
+      answer-blend e (omega arith) last ∙ rw gone (blend-last _ _))
+      (λ past. answer-lookup e past)
+
 -- no answer is large
 module _ (r : LineRecord) (ranges : InRanges r) (raw : ℕ) where
   -- 65,536 times the line's voltage, rounding included
@@ -83,19 +101,21 @@ module _ (r : LineRecord) (ranges : InRanges r) (raw : ℕ) where
   lookup-most l h = omega (arith, voltage-is r raw, sum-most r ranges raw l (omega arith))
 
   -- an answer by which of the three it is
-  by-region : (P : ℕ → Type 0) → (t : Bool) → usesLookup r ≡ t
+  by-region : (P : ℕ → Type 0)
       → P (lineVoltage r raw)
       → (2880 ≤ raw → raw ≤ 2944 → P (blendOf (lineVoltage r raw) (lookupVoltage r raw) (raw - 2880)))
       → (2944 < raw → P (lookupVoltage r raw))
       → P (answerAt r raw)
-  by-region P false e line blend look = rw (answer-plain r raw e) line
-  by-region P true e line blend look =
+  by-region P line blend look =
+      whether (usesLookup r)
+      (λ e.
       either 2880 raw
       (λ l. either raw 2944 (λ u. rw (answer-blend r raw e l u) (blend l u)) (λ u. rw (answer-lookup r raw e u) (look u)))
-      (λ l. rw (answer-below r raw l) line)
+      (λ l. rw (answer-below r raw l) line))
+      (λ e. rw (answer-plain r raw e) line)
 
   pub answer-most : raw ≤ 4095 → answerAt r raw ≤ 12285
   answer-most h =
-      by-region (λ v. v ≤ 12285) (usesLookup r) refl (line-most h)
+      by-region (λ v. v ≤ 12285) (line-most h)
       (λ l u. blend-most _ _ (raw - 2880) (omega arith) 12285 (line-most h) (lookup-most l h))
       (λ u. lookup-most (omega arith) h)

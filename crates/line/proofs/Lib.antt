@@ -1,6 +1,14 @@
 pub mod Answers
+pub mod Codes
+pub mod Coefficients
 pub mod Conversions
+pub mod Decoding
+pub mod Fills
 pub mod Points
+pub mod Ramps
 pub mod Records
+pub mod Rising
+pub mod Segments
+pub mod Stretches
 pub mod Sums
 pub mod Unique

@@ -2,12 +2,13 @@
 -- checks a record and then one thing more. Assumes nothing.
 use mathlib.Core.Path.{_≡_, refl, sym, _∙_}
 use mathlib.Core.Bool.{Bool, true, false, _||_}
-use mathlib.Core.Logic.{_⊎_, inl, inr}
+use mathlib.Core.Logic.{_⊎_, inl, inr, ⊎-elim}
 use Prim.Native.Nat.{ℕ, _≤_}
 use native.Mathlib.Omega.{arith}
 use lib.Dec.{ltb}
 use borrow.Author.Tests.{ltb-false, le-ltb}
 use Rattle.terms.specs.Refuse.{refuse, orElse}
+use Rattle.terms.proofs.Order.{whether}
 use Rattle.terms.proofs.Refusals.{refuse-none, or-none}
 use Rattle.line.specs.declared.record.LineRecord.{LineRecord}
 use Rattle.line.specs.Record.{recordRefusal}
@@ -59,9 +60,8 @@ module _ (r : LineRecord) where
   pub record-then : (t : Bool) (n : ℕ) (P : ℕ → Type 0)
       → ((InRanges r → ⊥) → P 10) → (InRanges r → t ≡ true → P n) → (InRanges r → t ≡ false → P 0)
       → P (orElse (recordRefusal r) (refuse t n 0))
-  record-then t n P outside second none = by-number t record-number refl
-    where
-      by-number : (s : Bool) → (recordRefusal r ≡ 0) ⊎ (recordRefusal r ≡ 10) → t ≡ s → P (orElse (recordRefusal r) (refuse t n 0))
-      by-number s (inr e) i = rw e (outside (λ p. let z : _≡_ {A = ℕ} 0 10 = sym (record-good p) ∙ e in omega arith))
-      by-number true (inl e) i = rw (e, i) (second (record-sound e) i)
-      by-number false (inl e) i = rw (e, i) (none (record-sound e) i)
+  record-then t n P outside second none =
+      ⊎-elim
+      (λ (e : recordRefusal r ≡ 0). whether t (λ i. rw (e, i) (second (record-sound e) i)) (λ i. rw (e, i) (none (record-sound e) i)))
+      (λ (e : recordRefusal r ≡ 10). rw e (outside (λ p. let z : _≡_ {A = ℕ} 0 10 = sym (record-good p) ∙ e in omega arith)))
+      record-number

@@ -12,7 +12,7 @@ use Rattle.line.specs.declared.record.LineRecord.{LineRecord}
 use Rattle.line.specs.declared.lookup.Slope.{Slope}
 use Rattle.line.specs.Record.{recordRefusal}
 use Rattle.line.specs.Lookup.{lowAt, highAt, lookupNumerator, lookupVoltage}
-use Rattle.line.specs.Walk.{pointAt, lookupSum, SlopeAt}
+use Rattle.line.specs.Walk.{pointAt, along, lookupSum, LutSlope}
 use Rattle.line.proofs.Points.{point-is, point-most, points-rise}
 use Rattle.line.proofs.Records.{InRanges}
 
@@ -105,7 +105,7 @@ module _ (r : LineRecord) (ranges : InRanges r) where
     -- between the points around the count, and each count up to the next point adds the same
     pub record Between (here there : ℕ) : Type 0 where
       pub order : here ≤ there
-      pub along : (k : ℕ) → raw % 64 + k ≤ 64
+      pub sums : (k : ℕ) → raw % 64 + k ≤ 64
           → lookupSum r (raw + k) ≡ mean here there ((raw - 2880) % 64) + 6400 + (there - here) * k
 
     pub between : raw ≤ 4095 → {here there : ℕ} → here ≡ pt ((raw - 2880) / 64) → there ≡ pt ((raw - 2880) / 64 + 1)
@@ -116,7 +116,7 @@ module _ (r : LineRecord) (ranges : InRanges r) where
         let rise = points-rise (r .unit) (r .vref) i (omega arith) (ranges .vref-least) (ranges .vref-most) in
         rw (h, t) (record {
           order = rise;
-          along =
+          sums =
               λ k near.
               ap (lookupSum r) (omega arith)
               ∙ sum-in-step i (y + k) (omega arith) (omega arith)
@@ -137,9 +137,9 @@ unfolding lookupVoltage lookupSum
 voltage-is r raw = abs-quot (lookupNumerator r raw +ℤ pos 6400) 12800
 
 -- a slope's voltages, from its count up to the next point
-module _ (r : LineRecord) (raw : ℕ) {s : Slope} (p : SlopeAt r raw s) where
-  pub slope-voltage : (k : ℕ) → raw % 64 + k ≤ 64 → (s .sum + s .rise * k) / 12800 ≡ lookupVoltage r (raw + k)
-  slope-voltage k h = ap (λ (n : ℕ). n / 12800) (sym (p .along k h)) ∙ sym (voltage-is r (raw + k))
+module _ (r : LineRecord) (raw : ℕ) {s : Slope} (p : LutSlope r raw s) where
+  pub slope-voltage : (k : ℕ) → raw % 64 + k ≤ 64 → along s k / 12800 ≡ lookupVoltage r (raw + k)
+  slope-voltage k h = ap (λ (n : ℕ). n / 12800) (sym (p .sums k h)) ∙ sym (voltage-is r (raw + k))
 
   pub slope-here : s .sum / 12800 ≡ lookupVoltage r raw
   slope-here = simp (mul-zero, add-zero) at (slope-voltage 0 (omega arith))

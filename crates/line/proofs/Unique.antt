@@ -1,8 +1,29 @@
 -- Each public call's promise, as the check reads it from the source, admits one answer and one content of lent memory per input:
 -- it is an equation. Assumes nothing.
 use mathlib.Core.Path.{sym, _∙_}
+use mathlib.Core.List.{List}
+use Prim.Native.Nat.{ℕ}
+use denote.Ref.{now}
+use Rattle.terms.specs.declared.refusal.Outcome.{Outcome}
 use Rattle.terms.proofs.OneAnswer.{OneAnswer}
 use Rattle.line.proofs.record.check_record.Reads as check-record
+use Rattle.line.proofs.decode.decode.Reads as decode
+use Rattle.line.proofs.decode.number_of.Reads as number-of
+use Rattle.line.proofs.convert.convert.Reads as convert
+use Rattle.line.proofs.fill.fill.Reads as fill
 
 pub check-record-one : OneAnswer (λ κs z e. z) check-record.Post
 check-record-one κs a z z′ e e′ p q = p ∙ sym q
+
+pub decode-one : OneAnswer (λ κs z e. z) decode.Post
+decode-one κs a z z′ e e′ p q = p ∙ sym q
+
+pub number-of-one : OneAnswer (λ κs z e. z) number-of.Post
+number-of-one κs a z z′ e e′ p q = p ∙ sym q
+
+pub convert-one : OneAnswer (λ κs z e. z) convert.Post
+convert-one κs a z z′ e e′ p q = p ∙ sym q
+
+-- of a fill there is to see the outcome and what the lent list, the third parameter, is at exit
+pub fill-one : OneAnswer {X = Outcome × List ℕ} (λ κs z e. (z, now (e .1 .1 .0))) fill.Post
+fill-one κs a z z′ e e′ p q = λ i. ((p .0 ∙ sym (q .0)) i, (p .1 ∙ sym (q .1)) i)

@@ -1,25 +1,46 @@
 -- What private functions promise of the lookup without signs and of the fill's segments. No public promise cites it.
 use mathlib.Core.Path.{_≡_}
 use mathlib.Core.Bool.{cond, not}
-use Prim.Native.Nat.{ℕ, _+_, _*_, _-_, _%_, _≤_}
+use Prim.Native.Nat.{ℕ, _+_, _*_, _-_, _%_, _≤_, _<_}
 use lib.Dec.{ltb}
 use lib.IntN.{pos, natAbs, _+ℤ_}
 use Rattle.line.specs.declared.record.LineRecord.{LineRecord}
 use Rattle.line.specs.declared.lookup.Slope.{Slope}
-use Rattle.line.specs.Record.{usesLookup}
+use Rattle.line.specs.Record.{usesLookup, recordRefusal}
 use Rattle.line.specs.Lookup.{lowAt, highAt, lookupNumerator}
 
 -- 200 times the millivolts at point k of a unit's tables: low × (1200 − vref) + high × (vref − 1000)
 unfoldable pub pointAt : ℕ → ℕ → ℕ → ℕ
 pointAt unit vref k = 1200 * lowAt unit k - 1000 * highAt unit k + vref * (highAt unit k - lowAt unit k)
 
+-- a sum k counts further on its slope
+abbrev pub along : Slope → ℕ → ℕ
+along s k = s .sum + s .rise * k
+
 -- the lookup's numerator with 6400 added
 unfoldable pub lookupSum : LineRecord → ℕ → ℕ
 lookupSum r raw = natAbs (lookupNumerator r raw +ℤ pos 6400)
 
--- a slope gives the lookup's sum at a count and at each one further, up to the next point
-pub record SlopeAt (r : LineRecord) (raw : ℕ) (s : Slope) : Type 0 where
-  pub along : (k : ℕ) → raw % 64 + k ≤ 64 → lookupSum r (raw + k) ≡ s .sum + s .rise * k
+-- a slope of that sum from a count up to the next point
+pub record LutSlope (r : LineRecord) (raw : ℕ) (s : Slope) : Type 0 where
+  pub sums : (k : ℕ) → raw % 64 + k ≤ 64 → lookupSum r (raw + k) ≡ along s k
+
+-- the slope of the line's numerator with 32768 and b × 65536 added, so that b is in its quotient
+abbrev pub lineSlope : LineRecord → ℕ → Slope
+lineSlope r raw = record { sum = r .«coeff_a» * raw + 32768 + 65536 * r .«coeff_b»; rise = r .«coeff_a» }
+
+-- n counts from a first one on, at most up to the next point
+pub record InStep (r : LineRecord) (first n : ℕ) : Type 0 where
+  pub good : recordRefusal r ≡ 0
+  pub from : 2880 ≤ first
+  pub upto : first ≤ 4095
+  pub room : first % 64 + n ≤ 64
+
+-- two slopes whose blend stays in its 64 counts, and whose quotients fit 16 bits
+pub record Blended (line lut : Slope) (x n : ℕ) : Type 0 where
+  pub counts : x + n ≤ 64
+  pub line-fits : along line n < 65536 * 65536
+  pub lut-fits : along lut n < 65536 * 12800
 
 -- how many counts from a given one on are in one segment: the line's, to 2880 where the record uses the lookup; above, up to the next
 -- point, at a multiple of 64

@@ -6,7 +6,7 @@ ghost use Prim.Native.Nat.{_≤_, _<_};
 ghost use lib.ListN.{getD};
 ghost use Rattle.line.specs.Record.{recordRefusal};
 ghost use Rattle.line.specs.Lookup.{lutAdc1Low, lutAdc1High, lutAdc2Low, lutAdc2High, lookupVoltage};
-ghost use Rattle.line.specs.Walk.{pointAt, SlopeAt};
+ghost use Rattle.line.specs.Walk.{pointAt, LutSlope};
 
 pub(crate) const LUT_LOW_THRESH: u32 = 2880;
 
@@ -25,7 +25,7 @@ const LUT_VREF_HIGH: u32 = 1200;
 // A row of the tables: millivolts at a Vref of 1000 and of 1200.
 pub(crate) struct Row(pub(crate) u32, pub(crate) u32);
 
-// Where the lookup stands at a count: `LUT_SCALE` times its voltage, rounding included, and what each count more adds to that.
+// A sum at a count, and what each count more adds to it. A voltage is a quotient of such a sum, rounding included.
 pub(crate) struct Slope {
     pub(crate) sum: u32,
     pub(crate) rise: u32,
@@ -93,10 +93,10 @@ fn point(unit: u8, vref: u32, k: u32) -> u32
     LUT_VREF_HIGH * low - LUT_VREF_LOW * high + vref * (high - low)
 }
 
-// The lookup's slope at a count, up to the next point.
-pub(crate) fn slope_at(cal: LineRecord, raw: u32) -> Slope
+// The lookup's slope from a count up to the next point; its divisor is `LUT_SCALE`.
+pub(crate) fn lut_slope(cal: LineRecord, raw: u32) -> Slope
     requires { ⌜ (recordRefusal cal ≡ 0) × (2880 ≤ raw) × (raw ≤ 4095) ⌝ }
-    ensures { λ r. ⌜ SlopeAt cal raw r ⌝ }
+    ensures { λ r. ⌜ LutSlope cal raw r ⌝ }
 {
     let unit = cal.unit;
     let vref = cal.vref;
@@ -116,6 +116,6 @@ pub(crate) fn calculate_voltage_lut(cal: LineRecord, raw: u32) -> u32
     requires { ⌜ (recordRefusal cal ≡ 0) × (2880 ≤ raw) × (raw ≤ 4095) ⌝ }
     ensures { λ r. ⌜ r ≡ lookupVoltage cal raw ⌝ }
 {
-    let slope = slope_at(cal, raw);
+    let slope = lut_slope(cal, raw);
     slope.sum / LUT_SCALE
 }

@@ -1,2 +1,3 @@
+pub mod Decimals
 pub mod Loads
 pub mod Unique

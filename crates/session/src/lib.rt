@@ -1,2 +1,3 @@
-// The desk's work: loading files.
+// The desk's work: loading files, the text of a line.
 pub mod load;
+mod text;

@@ -1,4 +1,6 @@
 // Loading a dump from the bytes of its file.
+use terms::bytes::u16_of;
+use terms::bytes::u32_of;
 ghost use mathlib.Core.Path.{_≡_};
 ghost use Prim.Native.Nat.{_<_, _*_};
 ghost use lib.ListN.{length};
@@ -9,20 +11,15 @@ const DUMP_BYTES: usize = 352;
 
 const DUMP_WORDS: usize = 88;
 
-fn wide(byte: u8) -> u32
-    ensures { λ r. ⌜ (r ≡ byte) × (r < 256) ⌝ }
-{
-    byte as u32
-}
-
 // Word k of a dump file, low byte first.
 fn word_at(bytes: &[u8], k: usize) -> u32
     requires { ⌜ (length (now bytes) ≡ 352) × (k < 88) ⌝ }
     ensures { λ r. ⌜ r ≡ wordAt (now (bytes .entry)) k ⌝ }
 {
     let at = 4 * k;
-    let low = wide(bytes[at]) + 256 * wide(bytes[at + 1]);
-    low + 65536 * wide(bytes[at + 2]) + 16777216 * wide(bytes[at + 3])
+    let low = u16_of(bytes[at], bytes[at + 1]);
+    let high = u16_of(bytes[at + 2], bytes[at + 3]);
+    u32_of(low, high)
 }
 
 // Puts the words of a dump file into the lent room of 88 words, and tells how many there are: 88, or 0 where the file has another

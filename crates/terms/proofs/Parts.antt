@@ -51,12 +51,11 @@ pub lent-length : (l : List ℕ) (a e : ℕ) → a ≤ e → e ≤ length l → 
 lent-length l a e rising within = length-take-le (e - a) (drop a l) (simp length-drop (omega arith))
 
 -- a loop that fills a list from the front, a part a turn
-pub fill-part : (f : ℕ → ℕ) {before : List ℕ} (l part : List ℕ) (a e : ℕ) → Filled f before l a → a ≤ e → e ≤ length l
-    → part ≡ tab (λ k. f (a + k)) (length (take (e - a) (drop a l))) → Filled f before (putBack l a e part) e
-fill-part f l part a e p rising within came =
-    let own : ℕ → ℕ = λ k. f (a + k) in
-    let back : part ≡ tab own (e - a) = came ∙ ap (tab own) (lent-length l a e rising within) in
-    let long : length part ≡ e - a = ap length back ∙ tab-length own (e - a) in
+pub fill-part : (f g : ℕ → ℕ) {before : List ℕ} (l part : List ℕ) (a e : ℕ) → Filled f before l a → a ≤ e → e ≤ length l
+    → ((k : ℕ) → g k ≡ f (a + k)) → part ≡ tab g (length (take (e - a) (drop a l))) → Filled f before (putBack l a e part) e
+fill-part f g l part a e p rising within agree came =
+    let back : part ≡ tab g (e - a) = came ∙ ap (tab g) (lent-length l a e rising within) in
+    let long : length part ≡ e - a = ap length back ∙ tab-length g (e - a) in
     let same = put-length l part a e rising within long in
     record {
       same = same ∙ p .same;
@@ -67,7 +66,8 @@ fill-part f l part a e p rising within came =
           (λ late.
           put-in l part a e rising within long k late h
           ∙ ap (λ (t : List ℕ). getD t (k - a) 0) back
-          ∙ tab-at own (e - a) (k - a) (omega arith)
+          ∙ tab-at g (e - a) (k - a) (omega arith)
+          ∙ agree (k - a)
           ∙ ap f (add-sub-of-le late))
           (λ early. put-before l part a e rising within long k early ∙ p .first k early);
     }

@@ -4,11 +4,11 @@ use Rattle.line.proofs.Sums.{slope-here}
 use Rattle.line.proofs.lookup.calculate_voltage_lut.Statement.{statement}
 use Rattle.line.proofs.lookup.calculate_voltage_lut.Tie as tie
 
-slope-at-requires : tie.Need-slope-at-requires
-slope-at-requires c κs = search needs
+lut-slope-requires : tie.Need-lut-slope-requires
+lut-slope-requires c κs = search needs
 
 returns : tie.Need-returns
-returns c = slope-here _ _ (c .before .slope-at .ensures)
+returns c = slope-here _ _ (c .before .lut-slope .ensures)
 
 pub calculate-voltage-lut-spec : {M : Type 1} → statement M
-calculate-voltage-lut-spec = tie.close (tie.spec slope-at-requires returns)
+calculate-voltage-lut-spec = tie.close (tie.spec lut-slope-requires returns)

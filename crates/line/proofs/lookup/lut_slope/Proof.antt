@@ -1,12 +1,12 @@
--- `line::slope_at` meets its contract: it has the points around the count, whose mean is the lookup's numerator. Assumes nothing.
+-- `line::lut_slope` meets its contract: it has the points around the count, whose mean is the lookup's numerator. Assumes nothing.
 use mathlib.Core.Path.{_≡_}
 use Prim.Native.Nat.{_+_, _*_, _-_, _%_, _≤_}
 use native.Mathlib.Omega.{arith}
 use borrow.Author.Needs.{needs}
 use Rattle.line.proofs.Records.{InRanges, record-sound}
 use Rattle.line.proofs.Sums.{Between, between, sum-most}
-use Rattle.line.proofs.lookup.slope_at.Statement.{statement}
-use Rattle.line.proofs.lookup.slope_at.Tie as tie
+use Rattle.line.proofs.lookup.lut_slope.Statement.{statement}
+use Rattle.line.proofs.lookup.lut_slope.Tie as tie
 
 sub-past : tie.Need-sub-past
 sub-past c = search needs
@@ -37,7 +37,7 @@ fits : (c : tie.After-point2) → let past = c .before .before .args .raw - 2880
 fits c =
     let a = c .before .before .args in
     let p = c .before .before .pre in
-    omega (arith, points c .along 0 (omega arith), sum-most (a .cal) (record-sound _ (p .0)) (a .raw + 0) (omega arith) (omega arith))
+    omega (arith, points c .sums 0 (omega arith), sum-most (a .cal) (record-sound _ (p .0)) (a .raw + 0) (omega arith) (omega arith))
 
 mul-t11 : tie.Need-mul-t11
 mul-t11 c = omega (arith, fits c)
@@ -55,10 +55,10 @@ sub-t15 : tie.Need-sub-t15
 sub-t15 c = points c .order
 
 returns : tie.Need-returns
-returns c = record { along = points c .along }
+returns c = record { sums = points c .sums }
 
-pub slope-at-spec : {M : Type 1} → statement M
-slope-at-spec =
+pub lut-slope-spec : {M : Type 1} → statement M
+lut-slope-spec =
     tie.close
     (tie.spec
     sub-past

@@ -1,0 +1,161 @@
+// Decoding: the line record of a unit at an attenuation, from a dump and its map. In the crate: `new_cal`.
+use crate::characterize;
+use crate::characterize::Coefficients;
+use crate::characterize::Source;
+use crate::code;
+use crate::record;
+use crate::record::LineRecord;
+use efuse::field;
+use efuse::field::Read;
+use efuse::map;
+use terms::chip::MapChip;
+use terms::refusal;
+use terms::refusal::Outcome;
+use terms::refusal::Refusal;
+ghost use mathlib.Core.Path.{_≡_};
+ghost use Prim.Native.Nat.{_≤_, _<_};
+ghost use Rattle.efuse.specs.Field.{eight};
+ghost use Rattle.line.specs.Decode.{Mapped, rawOf, twoPointUsed, sourceOf, foundOf, recordFrom, inputRefusal, decodeRefusal, numberOf, decodeOf};
+
+const DUMP_WORDS: usize = 88;
+
+const LAST_UNIT: u8 = 1;
+
+const LAST_ATTEN: u8 = 3;
+
+// The ids of an ESP32 map.
+const ADC_VREF: u32 = 1;
+
+const BLK3_PART_RESERVE: u32 = 2;
+
+const ADC1_TP_LOW: u32 = 3;
+
+const ADC2_TP_LOW: u32 = 4;
+
+const ADC1_TP_HIGH: u32 = 5;
+
+const ADC2_TP_HIGH: u32 = 6;
+
+// A line record, or why there is none.
+pub enum Decoded {
+    Record(LineRecord),
+    Refused(Refusal),
+}
+
+// What a record is made from: where a and b come from with the raw codes, the raw bits of ADC_VREF, and a and b.
+pub(crate) struct Found {
+    pub(crate) source: Source,
+    pub(crate) vref: u32,
+    pub(crate) line: Coefficients,
+}
+
+// The first thing wrong with what is handed in: 1, 7, then the map's.
+fn input_refusal(dump: &[u32], map: &[u8], unit: u8, atten: u8) -> u8
+    ensures { λ r. ⌜ r ≡ inputRefusal eight (now (dump .entry)) (now (map .entry)) unit atten ⌝ }
+{
+    if dump.len() != DUMP_WORDS {
+        return refusal::DUMP;
+    }
+    if LAST_UNIT < unit {
+        return refusal::UNIT;
+    }
+    if LAST_ATTEN < atten {
+        return refusal::UNIT;
+    }
+    let checked = map::check_map(MapChip::Esp32, map);
+    let Outcome::Refused(wrong) = checked else {
+        return refusal::NONE;
+    };
+    wrong.number
+}
+
+// The raw bits of the field with that id. It is never refused: its map has passed.
+fn raw(dump: &[u32], map: &[u8], id: u32) -> u32
+    requires { ⌜ Mapped eight (now dump) (now map) × (1 ≤ id) × (id ≤ 6) ⌝ }
+    ensures { λ r. ⌜ r ≡ rawOf (now (dump .entry)) (now (map .entry)) id ⌝ }
+{
+    let read = field::read_field_u32(dump, map::field_at(map, (id - 1) as usize));
+    let Read::Value(bits) = read else {
+        return 0;
+    };
+    bits
+}
+
+// Whether two points are used.
+fn check_efuse_tp(dump: &[u32], map: &[u8]) -> bool
+    requires { ⌜ Mapped eight (now dump) (now map) ⌝ }
+    ensures { λ r. ⌜ r ≡ twoPointUsed (now (dump .entry)) (now (map .entry)) ⌝ }
+{
+    if raw(dump, map, BLK3_PART_RESERVE) != 1 {
+        return false;
+    }
+    if raw(dump, map, ADC1_TP_LOW) == 0 {
+        return false;
+    }
+    if raw(dump, map, ADC2_TP_LOW) == 0 {
+        return false;
+    }
+    if raw(dump, map, ADC1_TP_HIGH) == 0 {
+        return false;
+    }
+    raw(dump, map, ADC2_TP_HIGH) != 0
+}
+
+// Where a unit's a and b come from.
+fn source(dump: &[u32], map: &[u8], unit: u8) -> Source
+    requires { ⌜ Mapped eight (now dump) (now map) ⌝ }
+    ensures { λ r. ⌜ r ≡ sourceOf (now (dump .entry)) (now (map .entry)) unit ⌝ }
+{
+    if check_efuse_tp(dump, map) {
+        let low = raw(dump, map, code::by_unit(unit, ADC1_TP_LOW, ADC2_TP_LOW));
+        let high = raw(dump, map, code::by_unit(unit, ADC1_TP_HIGH, ADC2_TP_HIGH));
+        return Source::TwoPoint(low, high);
+    }
+    Source::Vref
+}
+
+// What the record of a unit at an attenuation is made from, where nothing is refused.
+fn find(dump: &[u32], map: &[u8], unit: u8, atten: u8, source: Source) -> Found
+    requires { ⌜ (decodeRefusal eight (now dump) (now map) unit atten ≡ 0) × (source ≡ sourceOf (now dump) (now map) unit) ⌝ }
+    ensures { λ r. ⌜ r ≡ foundOf (now (dump .entry)) (now (map .entry)) unit atten ⌝ }
+{
+    let vref = raw(dump, map, ADC_VREF);
+    let line = characterize::characterize(unit, atten, code::efuse_vref(vref), source);
+    Found { source, vref, line }
+}
+
+// The record that is made from it.
+fn record_from(found: Found, unit: u8, atten: u8) -> LineRecord
+    requires { ⌜ found .vref < 32 ⌝ }
+    ensures { λ r. ⌜ r ≡ recordFrom found unit atten ⌝ }
+{
+    let line = found.line;
+    record::line_record(line.a, line.b, code::efuse_vref(found.vref), unit, atten)
+}
+
+// The line record of a unit at an attenuation, from a dump and its map. It passes `check_record`. Any dump, map, unit and
+// attenuation are answered; refusals 1, 7, then the map's, then 9.
+pub fn decode(dump: &[u32], map: &[u8], unit: u8, atten: u8) -> Decoded
+    ensures { λ r. ⌜ r ≡ decodeOf eight (now (dump .entry)) (now (map .entry)) unit atten ⌝ }
+{
+    let number = input_refusal(dump, map, unit, atten);
+    if number != refusal::NONE {
+        return Decoded::Refused(Refusal { number });
+    }
+    let source = source(dump, map, unit);
+    let number = characterize::source_refusal(unit, source);
+    if number != refusal::NONE {
+        return Decoded::Refused(Refusal { number });
+    }
+    Decoded::Record(record_from(find(dump, map, unit, atten, source), unit, atten))
+}
+
+// Document 01's number of a decoding: 0 where there is a record.
+pub fn number_of(decoded: Decoded) -> u8
+    ensures { λ r. ⌜ r ≡ numberOf decoded ⌝ }
+{
+    match decoded {
+        Decoded::Record(_) => refusal::NONE,
+        Decoded::Refused(why) => why.number,
+    }
+}

@@ -1,0 +1,3 @@
+pub mod Logs
+pub mod Samples
+pub mod Unique

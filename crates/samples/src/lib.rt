@@ -1,0 +1,3 @@
+// Sample logs: a log's next sample, and a sample's answer.
+pub mod answer;
+pub mod log;

@@ -1,0 +1,245 @@
+//! Document 01's formulas against the crate: the whole domain where it is small, else a seeded sample. Curves aren't here: beside
+//! the crate's own polynomial document 01 has only the rule for the coefficients.
+use oracle::curve::{self, Chip};
+use oracle::fields::{self, Field};
+use oracle::line::{self, Record};
+use oracle::noise::Noise;
+use oracle::plain::dump_and_map;
+use oracle::rules::MapChip;
+use oracle::{c6, document, s2};
+
+/// How many answers were compared, and how many of them differ.
+struct Tally {
+    what: &'static str,
+    compared: u64,
+    differ: u64,
+}
+
+impl Tally {
+    fn new(what: &'static str) -> Self {
+        Self { what, compared: 0, differ: 0 }
+    }
+
+    fn same<T: PartialEq>(&mut self, crates: T, documents: T) {
+        self.compared += 1;
+        self.differ += u64::from(crates != documents);
+    }
+
+    fn report(self) {
+        println!("{}: {} compared, {} differ", self.what, self.compared, self.differ);
+    }
+}
+
+pub fn all() {
+    marked();
+    fields();
+    vref();
+    two_point();
+    convert();
+    s2_readings();
+    s2_codes();
+    c6_codes();
+}
+
+/// Document 01's marked cases, as far as a call shows them.
+fn marked() {
+    let mut tally = Tally::new("marked cases");
+    marked_line(&mut tally);
+    marked_codes(&mut tally);
+    tally.report();
+}
+
+/// Cases 1, 3, 4, 5, 6; case 2 is in every two-point code.
+fn marked_line(tally: &mut Tally) {
+    let decode = |bits: [u32; 6]| {
+        let (dump, map) = dump_and_map(MapChip::Esp32, &bits);
+        line::decode(&dump, &map, 0, 3).ok()
+    };
+    for (code, vref) in [(0x00, 1100), (0x10, 1100), (0x0F, 1205), (0x1F, 995)] {
+        tally.same(decode([code, 0, 0, 0, 0, 0]).map(|record| record.vref), Some(vref));
+    }
+    let by_vref = Record { coeff_a: 52798, coeff_b: 142, vref: 1100, unit: 0, use_lut: true };
+    tally.same(decode([0; 6]), Some(by_vref));
+    for (raw, mv) in [(0, 142), (2880, 2462), (2912, 2483), (2944, 2502), (4095, 3134)] {
+        tally.same(line::convert(by_vref, raw), Ok(mv));
+    }
+    tally.same(decode([0, 1, 1, 1, 1, 1]), Some(Record { coeff_a: 52567, coeff_b: 138, ..by_vref }));
+    for (high, accepted) in [(0x1BD, true), (0x1BC, false)] {
+        tally.same(decode([0, 1, 63, 1, high, 1]).is_some(), accepted);
+    }
+}
+
+/// Cases 7 to 11.
+fn marked_codes(tally: &mut Tally) {
+    let (zeros, ones) = ([0; 88], [u32::MAX; 88]);
+    for (dump, unit, atten, param, mv) in
+        [(zeros, 0, 0, 1, 6110), (zeros, 0, 3, 2, 1685), (zeros, 1, 3, 2, 1719), (ones, 0, 3, 2, 1277), (ones, 1, 3, 1, 5077)]
+    {
+        tally.same(s2::reading(&dump, 2, unit, atten, param), Ok(mv));
+    }
+    let c6_dump = |k: usize, bits| {
+        let mut values = [0; 15];
+        values[k] = bits;
+        dump_and_map(MapChip::C6, &values)
+    };
+    for (minor, atten, bits, code) in [(2, 2, 0x200, 2900), (1, 0, 0x3FF, 989)] {
+        let (dump, map) = c6_dump(4 + usize::from(atten), bits);
+        tally.same(c6::cal_code(&dump, &map, minor, 0, atten), Ok(Some(code)));
+    }
+    for (atten, compens) in [(0, -28), (3, -7)] {
+        let (dump, map) = c6_dump(8, 0xF);
+        tally.same(c6::chan_compens(&dump, &map, 0, 0, atten), Ok(Some(compens)));
+    }
+    tally.same(curve::correct(Chip::C3, 0, 3, 1), Ok(Some(2)));
+    tally.same(curve::correct(Chip::S3, 1, 3, 1), Ok(Some(0)));
+}
+
+/// Every start and count inside the block, at 8, 16 and 32 bits and into 33 bytes.
+fn fields() {
+    let mut tally = Tally::new("fields");
+    let noise = &mut Noise::new(101);
+    for dump in [[0; 88], [u32::MAX; 88], noise.dump(), noise.dump()] {
+        for bit_start in 0..256 {
+            for bit_count in 0..=256 - bit_start {
+                let field = Field { block: noise.below(11) as u8, bit_start, bit_count };
+                let bytes = |n| document::bytes(&dump, field, n);
+                tally.same(fields::read_u8(&dump, field).map(|x| x.to_le_bytes().to_vec()), Ok(bytes(1)));
+                tally.same(fields::read_u16(&dump, field).map(|x| x.to_le_bytes().to_vec()), Ok(bytes(2)));
+                tally.same(fields::read_u32(&dump, field).map(|x| x.to_le_bytes().to_vec()), Ok(bytes(4)));
+                tally.same(fields::read_bytes(&dump, field, 33), Ok(bytes(33)));
+            }
+        }
+    }
+    tally.report();
+}
+
+fn record((coeff_a, coeff_b): (i64, i64), vref: u32, unit: usize, atten: usize) -> Record {
+    let coefficient = |x: i64| u32::try_from(x).expect("a coefficient");
+    let (coeff_a, coeff_b) = (coefficient(coeff_a), coefficient(coeff_b));
+    Record { coeff_a, coeff_b, vref: document::vref(vref) as u32, unit: unit as u8, use_lut: atten == 3 }
+}
+
+/// Every Vref code, unit and attenuation, without the reserve bit and with each two-point code zero in turn.
+fn vref() {
+    let mut tally = Tally::new("Vref decoding");
+    for (code, unit, atten) in codes(32, 2, 4) {
+        for zero in 2..7 {
+            let mut bits = [code, u32::from(zero != 6), 1, 1, 1, 1, 1];
+            bits[zero] = 0;
+            let (dump, map) = dump_and_map(MapChip::Esp32, &bits[..6]);
+            let document = record(document::by_vref(unit, atten, code), code, unit, atten);
+            tally.same(line::decode(&dump, &map, unit as u8, atten as u8).ok(), Some(document));
+        }
+    }
+    tally.report();
+}
+
+/// Numbers below three bounds.
+fn codes(first: u32, units: usize, attens: usize) -> impl Iterator<Item = (u32, usize, usize)> {
+    (0..first).flat_map(move |code| (0..units).flat_map(move |unit| (0..attens).map(move |atten| (code, unit, atten))))
+}
+
+/// Every pair of two-point codes that aren't zero, every unit and attenuation: a record, or the panic that is refusal 9.
+fn two_point() {
+    let mut tally = Tally::new("two-point decoding");
+    let mut panics = 0;
+    for (pair, unit, atten) in codes(128 * 512, 2, 4) {
+        let (low, high) = (pair / 512, pair % 512);
+        if low == 0 || high == 0 {
+            continue;
+        }
+        let (dump, map) = dump_and_map(MapChip::Esp32, &[0, 1, low, low, high, high]);
+        let decoded = line::decode(&dump, &map, unit as u8, atten as u8).ok();
+        panics += u64::from(decoded.is_none());
+        tally.same(decoded, document::two_point(unit, atten, low, high).map(|ab| record(ab, 0, unit, atten)));
+    }
+    tally.report();
+    println!("  of them refused with 9 where the crate panics: {panics}");
+}
+
+/// Every count of every Vref record and of records drawn from the whole range.
+fn convert() {
+    let mut tally = Tally::new("converting");
+    let noise = &mut Noise::new(102);
+    let mut records: Vec<Record> =
+        codes(32, 2, 4).map(|(code, u, a)| record(document::by_vref(u, a, code), code, u, a)).collect();
+    records.extend((0..300).map(|_| Record {
+        coeff_a: noise.within(0, 131071),
+        coeff_b: noise.within(0, 4095),
+        vref: noise.within(995, 1205),
+        unit: noise.below(2) as u8,
+        use_lut: !noise.once_in(4),
+    }));
+    for record in records {
+        for raw in 0..4096 {
+            tally.same(line::convert(record, raw).map(i64::from), Ok(document::convert(record, raw)));
+        }
+    }
+    tally.report();
+}
+
+/// Every version, unit, attenuation and parameter, with the eFuse and without.
+fn s2_readings() {
+    let mut tally = Tally::new("S2 readings");
+    let noise = &mut Noise::new(103);
+    let dumps = [[0; 88], [u32::MAX; 88]].into_iter().chain((0..300).map(|_| noise.dump()));
+    for dump in dumps {
+        for (i, unit, atten) in codes(15, 2, 4) {
+            let (version, param) = ([0, 1, 2, 3, 255][i as usize / 3], (i % 3) as u8);
+            let (unit, atten) = (unit as u8, atten as u8);
+            let tag = document::tag(version, unit, atten, param);
+            tally.same(s2::reading(&dump, version, unit, atten, param), Ok(document::reading(Some(&dump), tag)));
+            tally.same(s2::skipped(version, unit, atten, param), Ok(document::reading(None, tag)));
+        }
+    }
+    tally.report();
+}
+
+/// Every version field and crypt count of 8 bits.
+fn s2_codes() {
+    let mut tally = Tally::new("S2 versions, codes, flash encryption");
+    for (bits, unit, atten) in codes(256, 2, 4) {
+        let (dump, map) = dump_and_map(MapChip::S2, &[bits, bits]);
+        let code = |param| {
+            (bits == 2).then(|| document::reading(Some(&dump), document::tag(2, unit as u8, atten as u8, param)) as u16)
+        };
+        tally.same(s2::version(&dump, &map), Ok(bits as u8));
+        tally.same(s2::flash_encryption(&dump, &map), Ok((0..8).filter(|k| bits >> k & 1 == 1).count() % 2 == 1));
+        tally.same(s2::init_code(&dump, &map, unit as u8, atten as u8), Ok(code(2)));
+        tally.same(s2::cal_code(&dump, &map, unit as u8, atten as u8), Ok(code(1)));
+        tally.same(s2::cal_mv(unit as u8, atten as u8), Ok([600, 800, 1000, 2000][atten]));
+    }
+    tally.report();
+}
+
+/// Every init, calibration and channel code, minor version and channel.
+fn c6_codes() {
+    let mut tally = Tally::new("C6 versions and codes");
+    let version = |minor: u8| minor.min(2);
+    for (code, minor, atten) in codes(32768, 3, 4) {
+        let minor = minor as u8;
+        let mut bits = [0; 15];
+        bits[atten] = code;
+        bits[4 + atten] = code % 1024;
+        let (dump, map) = dump_and_map(MapChip::C6, &bits);
+        let init = (minor > 0).then_some(code as u16 + 1600);
+        tally.same(c6::init_code(&dump, &map, minor, 0, atten as u8), Ok(init));
+        let base = [0, 1500, if atten == 2 { 2900 } else { 2850 }][usize::from(minor)];
+        let cal = (minor > 0).then_some((base + document::sign_magnitude(code % 1024, 10)) as u16);
+        tally.same(c6::cal_code(&dump, &map, minor, 1, atten as u8), Ok(cal));
+    }
+    for (code, channel, atten) in codes(16, 256, 4) {
+        let mut bits = [0; 15];
+        bits[8 + channel.min(6)] = code;
+        let (dump, map) = dump_and_map(MapChip::C6, &bits);
+        let document = document::sign_magnitude(code, 4) * (4 - atten as i32);
+        tally.same(c6::chan_compens(&dump, &map, 0, channel as u8, atten as u8), Ok(Some(document)));
+    }
+    for (minor, unit, atten) in codes(256, 2, 4) {
+        let minor = minor as u8;
+        tally.same(c6::version(minor), Ok(version(minor)));
+        let mv = if version(minor) == 2 { [750, 1000, 1500, 2800] } else { [400, 550, 750, 1370] };
+        tally.same(c6::cal_mv(minor, unit as u8, atten as u8), Ok(mv[atten]));
+    }
+    tally.report();
+}

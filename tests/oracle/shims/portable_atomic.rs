@@ -1,0 +1,2 @@
+//! Stands in for `portable_atomic`.
+pub use core::sync::atomic::AtomicU8;

@@ -1,0 +1,19 @@
+//! The crate as oracle. `fields`, `line`, `s2`, `c6` and `curve` ask the crate itself, which may panic; `answers` has
+//! document 01's answer to any input: its refusals in its order (`rules`), and past them the crate's answer. `document` has its
+//! formulas, written without the crate.
+pub mod answers;
+pub mod c6;
+mod call;
+pub mod curve;
+pub mod document;
+pub mod fields;
+pub mod line;
+pub mod noise;
+pub mod plain;
+pub mod rules;
+pub mod s2;
+
+pub use call::Panic;
+
+/// The words of blocks 0 to 10.
+pub type Dump = [u32; 88];

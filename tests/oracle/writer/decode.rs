@@ -1,0 +1,196 @@
+//! ESP32 line calibration: decoding.
+use oracle::answers;
+use oracle::line::Record;
+use oracle::noise::Noise;
+use oracle::plain::{dump_and_map, record};
+use oracle::rules::{Answer, MapChip, RECORD};
+
+use crate::dumps::{Builder, any_words, lent};
+use crate::list::{List, number};
+use crate::maps::{of_length, spoil};
+
+/// The raw bits of ids 1 to 6.
+#[derive(Clone, Copy)]
+pub struct Codes {
+    vref: u32,
+    reserve: u32,
+    low: [u32; 2],
+    high: [u32; 2],
+}
+
+impl Codes {
+    /// Any codes with every two-point code nonzero, and the reserve bit as asked.
+    pub fn any(noise: &mut Noise, reserve: u32) -> Self {
+        let mut two = |largest| [noise.within(1, largest), noise.within(1, largest)];
+        let (low, high) = (two(0x7F), two(0x1FF));
+        Self { vref: noise.below(32), reserve, low, high }
+    }
+
+    /// The same with a unit's two-point codes.
+    pub fn with(mut self, unit: u8, low: u32, high: u32) -> Self {
+        self.low[usize::from(unit)] = low;
+        self.high[usize::from(unit)] = high;
+        self
+    }
+
+    /// The same with a Vref code.
+    pub fn with_vref(self, vref: u32) -> Self {
+        Self { vref, ..self }
+    }
+
+    fn bits(self) -> [u32; 6] {
+        [self.vref, self.reserve, self.low[0], self.low[1], self.high[0], self.high[1]]
+    }
+
+    /// A map whose fields hold the codes.
+    fn place(self, noise: &mut Noise, dump: &mut Builder) -> Vec<u8> {
+        let rows = MapChip::Esp32.rows().into_iter().zip(self.bits());
+        rows.flat_map(|((id, _, count), bits)| record(id, dump.holding(noise, bits, count.into()))).collect()
+    }
+
+    /// What is decoded of them.
+    pub fn decoded(self, unit: u8, atten: u8) -> Answer<Record> {
+        let (dump, map) = dump_and_map(MapChip::Esp32, &self.bits());
+        answers::decode(&dump, &map, unit, atten)
+    }
+}
+
+/// Codes, unit and attenuation of a decoding.
+type Case = (Codes, u8, u8);
+
+pub const UNITS: [u8; 2] = [0, 1];
+const ATTENS: [u8; 4] = [0, 1, 2, 3];
+
+/// Every Vref code with every unit and attenuation.
+fn vref_cases(noise: &mut Noise) -> Vec<Case> {
+    let mut cases = Vec::new();
+    for vref in 0..32 {
+        for unit in UNITS {
+            for atten in ATTENS {
+                cases.push((Codes::any(noise, 0).with_vref(vref), unit, atten));
+            }
+        }
+    }
+    cases
+}
+
+/// The reserve bit set and one code zero: Vref.
+fn one_zero_cases(noise: &mut Noise) -> Vec<Case> {
+    let mut cases = Vec::new();
+    for unit in UNITS {
+        for atten in ATTENS {
+            for zero in 0..4 {
+                let mut codes = Codes::any(noise, 1);
+                if zero < 2 {
+                    codes.low[zero] = 0
+                } else {
+                    codes.high[zero - 2] = 0
+                };
+                cases.push((codes, unit, atten));
+            }
+        }
+    }
+    cases
+}
+
+/// For each unit and low code, the last high code that is accepted and the first that is refused with 9.
+fn limit_cases(noise: &mut Noise) -> Vec<Case> {
+    let mut cases = Vec::new();
+    for unit in UNITS {
+        for low in 1..0x80 {
+            // Falling codes: 0x0FF down to 1, then 0x1FF (-1) down to 0x101 (-255).
+            let falling: Vec<u32> = (1..0x100).rev().chain((0x101..0x200).rev()).collect();
+            let codes = Codes::any(noise, 1);
+            let underflows = |high: &u32| codes.with(unit, low, *high).decoded(unit, 0) == Err(9);
+            let Some(first) = falling.iter().position(underflows) else { continue };
+            for high in &falling[first.saturating_sub(1)..=first] {
+                cases.push((codes.with(unit, low, *high), unit, noise.pick(&ATTENS)));
+            }
+        }
+    }
+    cases
+}
+
+/// The codes at the ends of both widths, with one another.
+fn end_cases(noise: &mut Noise) -> Vec<Case> {
+    let mut cases = Vec::new();
+    for low in [0x01, 0x3F, 0x40, 0x41, 0x7F] {
+        for high in [0x001, 0x0FF, 0x100, 0x101, 0x1BC, 0x1BD, 0x1FF] {
+            for unit in UNITS {
+                for atten in ATTENS {
+                    cases.push((Codes::any(noise, 1).with(unit, low, high), unit, atten));
+                }
+            }
+        }
+    }
+    cases
+}
+
+fn any_case(noise: &mut Noise) -> Case {
+    let reserve = noise.below(2);
+    (Codes::any(noise, reserve), noise.pick(&UNITS), noise.pick(&ATTENS))
+}
+
+/// A dump and 32 cases: what is decoded, with refusals strewn in by `strew`.
+pub fn decode() -> List {
+    const CASES: usize = 32;
+    let mut list = List::new("line_cases", "decode", 352 + 64 * CASES);
+    let noise = &mut Noise::new(4);
+    let mut cases = vref_cases(noise);
+    cases.extend(one_zero_cases(noise));
+    cases.extend(limit_cases(noise));
+    cases.extend(end_cases(noise));
+    let faultless = cases.len();
+    cases.extend((0..500).map(|_| any_case(noise)));
+    cases.truncate(cases.len() / CASES * CASES);
+    for (g, group) in cases.chunks(CASES).enumerate() {
+        let mut dump = Builder::new(noise.dump());
+        let maps: Vec<Vec<u8>> = group.iter().map(|(codes, ..)| codes.place(noise, &mut dump)).collect();
+        list.words(&dump.dump);
+        for (i, (map, (_, unit, atten))) in maps.into_iter().zip(group).enumerate() {
+            let mut asked = Asked { map, length: 48, words: 88, unit: *unit, atten: *atten };
+            if CASES * g + i >= faultless {
+                asked.strew(noise);
+            }
+            asked.put(&mut list, &dump);
+        }
+    }
+    list
+}
+
+/// A decoding as it is asked for.
+struct Asked {
+    map: Vec<u8>,
+    length: usize,
+    words: u8,
+    unit: u8,
+    atten: u8,
+}
+
+impl Asked {
+    /// Makes some of it wrong, often in more than one way, so that the order of refusals shows.
+    fn strew(&mut self, noise: &mut Noise) {
+        for _ in 0..noise.below(3) {
+            match noise.below(6) {
+                0 => self.words = any_words(noise),
+                1 => self.unit = noise.pick(&[0, 1, 2, 255]),
+                2 => self.atten = noise.pick(&[3, 4, 255]),
+                3 => self.length = noise.pick(&[0, 1, 8, 40, 47, 49, 56]),
+                _ => {
+                    let k = noise.below(6) as usize;
+                    spoil(noise, &mut self.map[RECORD * k..][..RECORD]);
+                }
+            }
+        }
+    }
+
+    fn put(self, list: &mut List, dump: &Builder) {
+        let Self { map, length, words, unit, atten } = self;
+        list.put(&map).u8(length as u8).u8(words).u8(unit).u8(atten);
+        let answer = answers::decode(&lent(&dump.dump, words), &of_length(map, length), unit, atten);
+        list.u8(number(&answer));
+        let none = Record { coeff_a: 0, coeff_b: 0, vref: 0, unit: 0, use_lut: false };
+        let got = answer.unwrap_or(none);
+        list.u8(got.use_lut.into()).u16(got.vref as u16).u32(got.coeff_a).u32(got.coeff_b);
+    }
+}

@@ -1,0 +1,33 @@
+//! Writes the lists that the gate's programs replay. `lists ROOT` writes crates/*_cases/data below ROOT; the formats are in
+//! tests/oracle/README.md. The same bytes come out each time.
+mod c6;
+mod convert;
+mod curve;
+mod decode;
+mod dumps;
+mod fields;
+mod list;
+mod maps;
+mod s2;
+
+fn main() {
+    let root = std::env::args().nth(1).expect("usage: lists ROOT");
+    let mut total = 0;
+    for list in [
+        fields::fields(),
+        fields::bytes(),
+        maps::maps(),
+        decode::decode(),
+        convert::convert(),
+        convert::fill(),
+        convert::stretches(),
+        s2::calls(),
+        c6::map_list(),
+        c6::calls(),
+        curve::tables(),
+        curve::single(),
+    ] {
+        total += list.save(&root);
+    }
+    println!("{total} bytes in all");
+}
