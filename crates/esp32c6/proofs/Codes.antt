@@ -1,7 +1,6 @@
 -- Laws of the C6's codes: which case their refusal is, what is known where none is given, and the range of every code.
 -- Assumes nothing.
 use mathlib.Core.Path.{_≡_, refl, sym, _∙_, ap}
-use mathlib.Core.Bool.{Bool, true, false, cond}
 use mathlib.Core.List.{List}
 use Prim.Native.Nat.{ℕ, _+_, _^_, _≤_, _<_}
 use native.Mathlib.Omega.{arith}
@@ -11,6 +10,7 @@ use mir.Syntax.{w32}
 use mir.Val.{SFits}
 use Rattle.terms.specs.declared.chip.MapChip.the-variants.{C6}
 use Rattle.terms.specs.Sign.{signMagnitude}
+use Rattle.terms.proofs.Order.{picked}
 use Rattle.terms.proofs.Refusals.{orElse-none, orElse-some}
 use Rattle.terms.proofs.Sign.{sign-fits}
 use Rattle.terms.proofs.Whole.{up, dn, sum-is, not-negative}
@@ -55,20 +55,13 @@ offset-first atten = refl
 
 pub offset-second : (atten : ℕ) → (2850 ≤ offsetOf 2 atten) × (offsetOf 2 atten ≤ 2900)
 unfolding offsetOf
-offset-second atten = either-one (eqb atten 2)
-  where
-    either-one : (six : Bool) → (2850 ≤ cond six 2900 2850) × (cond six 2900 2850 ≤ 2900)
-    either-one true = omega arith
-    either-one false = omega arith
+offset-second atten = picked (λ n. (2850 ≤ n) × (n ≤ 2900)) (eqb atten 2) (omega arith) (omega arith)
 
 pub offset-range : (version atten : ℕ) → (1500 ≤ offsetOf version atten) × (offsetOf version atten ≤ 2900)
 unfolding offsetOf
-offset-range version atten = one-of (eqb version 1) (eqb atten 2)
-  where
-    one-of : (first six : Bool) → (1500 ≤ cond first 1500 (cond six 2900 2850)) × (cond first 1500 (cond six 2900 2850) ≤ 2900)
-    one-of true six = omega arith
-    one-of false true = omega arith
-    one-of false false = omega arith
+offset-range version atten =
+    let P : ℕ → Type 0 = λ n. (1500 ≤ n) × (n ≤ 2900) in
+    picked P (eqb version 1) (omega arith) (picked P (eqb atten 2) (omega arith) (omega arith))
 
 -- a reference code is at most 511 from its offset, and so isn't negative and fits
 module _ (offset bits : ℕ) (least : 1500 ≤ offset) (most : offset ≤ 2900) (few : bits < 2 ^ 10) where
