@@ -1,0 +1,65 @@
+-- The range of every answer that isn't refused: a reading is from 577 to 7986, or 0 where version and parameter don't pair, and so is
+-- every code. Assumes nothing.
+use mathlib.Core.Path.{_≡_, sym, _∙_, ap}
+use mathlib.Core.Bool.{Bool, false}
+use mathlib.Core.List.{List}
+use Prim.Native.Nat.{ℕ, _≤_}
+use native.Mathlib.Omega.{arith}
+use lib.IntN.{ℤ, pos, natAbs}
+use Rattle.terms.proofs.Whole.{up}
+use Rattle.esp32s2.specs.declared.reading.RtcCalibParam.{RtcCalibParam}
+use Rattle.esp32s2.specs.declared.reading.RtcCalibParam.the-variants.{Vhigh, Vinit}
+use Rattle.esp32s2.specs.Reading.{readingOf, byVersion, firstTag, tagOf}
+use Rattle.esp32s2.specs.Code.{codeRefusal, valueOf, initCodeOf, calCodeOf}
+use Rattle.esp32s2.proofs.Chains.{reading-none, reading-whole, reading-range}
+use Rattle.esp32s2.proofs.Codes.{code-good}
+use Rattle.esp32s2.proofs.Tags.{tag-in-table, tag-none, tag-some}
+
+-- from 577 to 7986
+pub record Between (z : ℤ) : Type 0 where
+  pub whole : z ≡ pos (natAbs z)
+  pub least : 577 ≤ natAbs z
+  pub most : natAbs z ≤ 7986
+
+between : (z : ℤ) → z ≡ pos (up z) → (577 ≤ up z) × (up z ≤ 7986) → Between z
+between z e h = record { whole = e ∙ ap pos (sym same); least = omega (arith, same); most = omega (arith, same) }
+  where
+    same : natAbs z ≡ up z
+    same = ap natAbs e
+
+module _ (dump : List ℕ) (skip : Bool) (version unit atten : ℕ) (param : RtcCalibParam) (u : unit ≤ 1) (a : atten ≤ 3) where
+  -- a version and a parameter that pair
+  pub paired-range : (firstTag version param ≡ 0 → ⊥) → Between (readingOf dump skip (tagOf version unit atten param))
+  paired-range h =
+      let in-table = tag-in-table version unit atten param u a in
+      between (readingOf dump skip (tagOf version unit atten param)) (reading-whole dump skip _ in-table)
+      (reading-range dump skip _ in-table (tag-some version unit atten param h))
+
+  -- and that don't
+  pub unpaired : firstTag version param ≡ 0 → readingOf dump skip (tagOf version unit atten param) ≡ pos 0
+  unpaired e = ap (readingOf dump skip) (tag-none version unit atten param e) ∙ reading-none dump skip
+
+-- the codes
+module _ (words : ℕ → ℕ) (dump map : List ℕ) (unit atten : ℕ) (good : codeRefusal words dump map unit atten ≡ 0) where
+  code-between : (param : RtcCalibParam) → (firstTag 2 param ≡ 0 → ⊥) → Between (readingOf dump false (tagOf 2 unit atten param))
+  code-between param h =
+      let g = code-good words dump map unit atten good in
+      paired-range dump false 2 unit atten param (g .1 .0) (g .1 .1) h
+
+  pub init-code-whole :
+      pos (valueOf (initCodeOf words dump map unit atten)) ≡ readingOf dump false (tagOf 2 unit atten Vinit)
+  unfolding initCodeOf byVersion
+  init-code-whole = rw good (sym (code-between Vinit (λ e. omega arith) .whole))
+
+  pub init-code-range : let v = valueOf (initCodeOf words dump map unit atten) in (577 ≤ v) × (v ≤ 7986)
+  unfolding initCodeOf byVersion
+  init-code-range = let b = code-between Vinit (λ e. omega arith) in rw good (b .least, b .most)
+
+  pub cal-code-whole :
+      pos (valueOf (calCodeOf words dump map unit atten)) ≡ readingOf dump false (tagOf 2 unit atten Vhigh)
+  unfolding calCodeOf byVersion
+  cal-code-whole = rw good (sym (code-between Vhigh (λ e. omega arith) .whole))
+
+  pub cal-code-range : let v = valueOf (calCodeOf words dump map unit atten) in (577 ≤ v) × (v ≤ 7986)
+  unfolding calCodeOf byVersion
+  cal-code-range = let b = code-between Vhigh (λ e. omega arith) in rw good (b .least, b .most)

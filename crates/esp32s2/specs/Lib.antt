@@ -1,0 +1,6 @@
+pub mod Code
+pub mod Encryption
+pub mod Reading
+pub mod Reference
+pub mod Table
+pub mod Version
