@@ -1,5 +1,5 @@
--- The range of every answer that isn't refused: a reading is from 577 to 7986, or 0 where version and parameter don't pair, and so is
--- every code. Assumes nothing.
+-- The range of every answer that isn't refused: a reading is from 577 to 7986, or 0 where version and parameter don't pair; a code is
+-- from 577 to 7986. Assumes nothing.
 use mathlib.Core.Path.{_≡_, sym, _∙_, ap}
 use mathlib.Core.Bool.{Bool, false}
 use mathlib.Core.List.{List}
