@@ -10,7 +10,7 @@ use Rattle.terms.proofs.Whole.{up}
 use Rattle.esp32s2.specs.declared.reading.RtcCalibParam.{RtcCalibParam}
 use Rattle.esp32s2.specs.declared.reading.RtcCalibParam.the-variants.{Vhigh, Vinit}
 use Rattle.esp32s2.specs.Reading.{readingOf, byVersion, firstTag, tagOf}
-use Rattle.esp32s2.specs.Code.{codeRefusal, valueOf, initCodeOf, calCodeOf}
+use Rattle.esp32s2.specs.Code.{codeRefusal, valueOf, codeOf}
 use Rattle.esp32s2.proofs.Chains.{reading-none, reading-whole, reading-range}
 use Rattle.esp32s2.proofs.Codes.{code-good}
 use Rattle.esp32s2.proofs.Tags.{tag-in-table, tag-none, tag-some}
@@ -39,27 +39,26 @@ module _ (dump : List ℕ) (skip : Bool) (version unit atten : ℕ) (param : Rtc
   pub unpaired : firstTag version param ≡ 0 → readingOf dump skip (tagOf version unit atten param) ≡ pos 0
   unpaired e = ap (readingOf dump skip) (tag-none version unit atten param e) ∙ reading-none dump skip
 
--- the codes
-module _ (words : ℕ → ℕ) (dump map : List ℕ) (unit atten : ℕ) (good : codeRefusal words dump map unit atten ≡ 0) where
-  code-between : (param : RtcCalibParam) → (firstTag 2 param ≡ 0 → ⊥) → Between (readingOf dump false (tagOf 2 unit atten param))
-  code-between param h =
+-- the codes: both parameters pair with version 2
+pub init-pairs : firstTag 2 Vinit ≡ 0 → ⊥
+unfolding byVersion
+init-pairs e = omega arith
+
+pub high-pairs : firstTag 2 Vhigh ≡ 0 → ⊥
+unfolding byVersion
+high-pairs e = omega arith
+
+module _ (words : ℕ → ℕ) (dump map : List ℕ) (unit atten : ℕ) (good : codeRefusal words dump map unit atten ≡ 0)
+    (param : RtcCalibParam) (pairs : firstTag 2 param ≡ 0 → ⊥) where
+  code-between : Between (readingOf dump false (tagOf 2 unit atten param))
+  code-between =
       let g = code-good words dump map unit atten good in
-      paired-range dump false 2 unit atten param (g .1 .0) (g .1 .1) h
+      paired-range dump false 2 unit atten param (g .1 .0) (g .1 .1) pairs
 
-  pub init-code-whole :
-      pos (valueOf (initCodeOf words dump map unit atten)) ≡ readingOf dump false (tagOf 2 unit atten Vinit)
-  unfolding initCodeOf byVersion
-  init-code-whole = rw good (sym (code-between Vinit (λ e. omega arith) .whole))
+  pub code-whole : pos (valueOf (codeOf words dump map unit atten param)) ≡ readingOf dump false (tagOf 2 unit atten param)
+  unfolding codeOf
+  code-whole = rw good (sym (code-between .whole))
 
-  pub init-code-range : let v = valueOf (initCodeOf words dump map unit atten) in (577 ≤ v) × (v ≤ 7986)
-  unfolding initCodeOf byVersion
-  init-code-range = let b = code-between Vinit (λ e. omega arith) in rw good (b .least, b .most)
-
-  pub cal-code-whole :
-      pos (valueOf (calCodeOf words dump map unit atten)) ≡ readingOf dump false (tagOf 2 unit atten Vhigh)
-  unfolding calCodeOf byVersion
-  cal-code-whole = rw good (sym (code-between Vhigh (λ e. omega arith) .whole))
-
-  pub cal-code-range : let v = valueOf (calCodeOf words dump map unit atten) in (577 ≤ v) × (v ≤ 7986)
-  unfolding calCodeOf byVersion
-  cal-code-range = let b = code-between Vhigh (λ e. omega arith) in rw good (b .least, b .most)
+  pub code-range : let v = valueOf (codeOf words dump map unit atten param) in (577 ≤ v) × (v ≤ 7986)
+  unfolding codeOf
+  code-range = rw good (code-between .least, code-between .most)

@@ -10,6 +10,7 @@ use Rattle.terms.specs.Refuse.{refuse, orElse, answered}
 use Rattle.efuse.specs.Decoding.{decodingRefusal}
 use Rattle.esp32s2.specs.declared.code.Code.{Code}
 use Rattle.esp32s2.specs.declared.code.Code.the-variants.{Value, Refused}
+use Rattle.esp32s2.specs.declared.reading.RtcCalibParam.{RtcCalibParam}
 use Rattle.esp32s2.specs.declared.reading.RtcCalibParam.the-variants.{Vhigh, Vinit}
 use Rattle.esp32s2.specs.Reading.{readingOf, tagOf}
 use Rattle.esp32s2.specs.Version.{versionOf}
@@ -30,12 +31,13 @@ abbrev pub valueOf : Code → ℕ
 valueOf (Value code) = code
 valueOf (Refused r) = 0
 
--- version 2's initial code, a reading that is never negative (`init-code-whole`)
-unfoldable pub initCodeOf : (ℕ → ℕ) → List ℕ → List ℕ → ℕ → ℕ → Code
-initCodeOf words dump map unit atten =
-    answered (codeRefusal words dump map unit atten) (Value (natAbs (readingOf dump false (tagOf 2 unit atten Vinit)))) Refused
+-- version 2's reading of a parameter, which is never negative (`code-whole`)
+unfoldable pub codeOf : (ℕ → ℕ) → List ℕ → List ℕ → ℕ → ℕ → RtcCalibParam → Code
+codeOf words dump map unit atten param =
+    answered (codeRefusal words dump map unit atten) (Value (natAbs (readingOf dump false (tagOf 2 unit atten param)))) Refused
 
--- version 2's high reading
-unfoldable pub calCodeOf : (ℕ → ℕ) → List ℕ → List ℕ → ℕ → ℕ → Code
-calCodeOf words dump map unit atten =
-    answered (codeRefusal words dump map unit atten) (Value (natAbs (readingOf dump false (tagOf 2 unit atten Vhigh)))) Refused
+abbrev pub initCodeOf : (ℕ → ℕ) → List ℕ → List ℕ → ℕ → ℕ → Code
+initCodeOf words dump map unit atten = codeOf words dump map unit atten Vinit
+
+abbrev pub calCodeOf : (ℕ → ℕ) → List ℕ → List ℕ → ℕ → ℕ → Code
+calCodeOf words dump map unit atten = codeOf words dump map unit atten Vhigh

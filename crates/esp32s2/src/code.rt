@@ -15,7 +15,7 @@ ghost use lib.IntN.{pos};
 ghost use lib.ListN.{length};
 ghost use Rattle.efuse.specs.Field.{eight};
 ghost use Rattle.esp32s2.specs.Reading.{readingOf, tagOf};
-ghost use Rattle.esp32s2.specs.Code.{codeRefusal, initCodeOf, calCodeOf};
+ghost use Rattle.esp32s2.specs.Code.{codeRefusal, codeOf, initCodeOf, calCodeOf};
 
 const CODE_VERSION: u8 = 2;
 
@@ -47,24 +47,27 @@ fn code_at(dump: &[u32], unit: u8, atten: u8, param: RtcCalibParam) -> u16
     rtc_calib_parsed(dump, rtc_calib_tag(CODE_VERSION, unit, atten, param), false) as u16
 }
 
-// The ADC's initial code for a unit and an attenuation: from 577 to 7986. Refusals 1, 7, the map's, 12.
-pub fn rtc_calib_init_code(dump: &[u32], map: &[u8], unit: u8, atten: u8) -> Code
-    ensures { λ r. ⌜ r ≡ initCodeOf eight (now (dump .entry)) (now (map .entry)) unit atten ⌝ }
+// The code of a parameter, or its refusal.
+fn code_of(dump: &[u32], map: &[u8], unit: u8, atten: u8, param: RtcCalibParam) -> Code
+    ensures { λ r. ⌜ r ≡ codeOf eight (now (dump .entry)) (now (map .entry)) unit atten param ⌝ }
 {
     let number = code_refusal(dump, map, unit, atten);
     if number != refusal::NONE {
         return Code::Refused(Refusal { number });
     }
-    Code::Value(code_at(dump, unit, atten, RtcCalibParam::Vinit))
+    Code::Value(code_at(dump, unit, atten, param))
+}
+
+// The ADC's initial code for a unit and an attenuation: from 577 to 7986. Refusals 1, 7, the map's, 12.
+pub fn rtc_calib_init_code(dump: &[u32], map: &[u8], unit: u8, atten: u8) -> Code
+    ensures { λ r. ⌜ r ≡ initCodeOf eight (now (dump .entry)) (now (map .entry)) unit atten ⌝ }
+{
+    code_of(dump, map, unit, atten, RtcCalibParam::Vinit)
 }
 
 // The ADC's code at the reference voltage of a unit and an attenuation: from 577 to 7986. Refusals 1, 7, the map's, 12.
 pub fn rtc_calib_cal_code(dump: &[u32], map: &[u8], unit: u8, atten: u8) -> Code
     ensures { λ r. ⌜ r ≡ calCodeOf eight (now (dump .entry)) (now (map .entry)) unit atten ⌝ }
 {
-    let number = code_refusal(dump, map, unit, atten);
-    if number != refusal::NONE {
-        return Code::Refused(Refusal { number });
-    }
-    Code::Value(code_at(dump, unit, atten, RtcCalibParam::Vhigh))
+    code_of(dump, map, unit, atten, RtcCalibParam::Vhigh)
 }
