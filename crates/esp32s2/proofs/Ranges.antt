@@ -7,9 +7,10 @@ use Prim.Native.Nat.{ℕ, _≤_}
 use native.Mathlib.Omega.{arith}
 use lib.IntN.{ℤ, pos, natAbs}
 use Rattle.terms.proofs.Whole.{up}
-use Rattle.esp32s2.specs.declared.reading.RtcCalibParam.{RtcCalibParam}
-use Rattle.esp32s2.specs.declared.reading.RtcCalibParam.the-variants.{Vhigh, Vinit}
-use Rattle.esp32s2.specs.Reading.{readingOf, byVersion, firstTag, tagOf}
+use Rattle.esp32s2.specs.declared.tag.RtcCalibParam.{RtcCalibParam}
+use Rattle.esp32s2.specs.declared.tag.RtcCalibParam.the-variants.{Vhigh, Vinit}
+use Rattle.esp32s2.specs.Reading.{readingOf}
+use Rattle.esp32s2.specs.Tag.{byVersion, firstTag, tagOf}
 use Rattle.esp32s2.specs.Code.{codeRefusal, valueOf, codeOf}
 use Rattle.esp32s2.proofs.Chains.{reading-none, reading-whole, reading-range}
 use Rattle.esp32s2.proofs.Codes.{code-good}

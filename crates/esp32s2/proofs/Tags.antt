@@ -5,9 +5,9 @@ use native.Mathlib.Omega.{arith}
 use lib.Dec.{eqb}
 use borrow.Author.Tests.{eq-eqb, ne-eqb}
 use Rattle.terms.proofs.Order.{picked}
-use Rattle.esp32s2.specs.declared.reading.RtcCalibParam.{RtcCalibParam}
-use Rattle.esp32s2.specs.declared.reading.RtcCalibParam.the-variants.{Vlow, Vhigh, Vinit}
-use Rattle.esp32s2.specs.Reading.{byVersion, firstTag, tagOf}
+use Rattle.esp32s2.specs.declared.tag.RtcCalibParam.{RtcCalibParam}
+use Rattle.esp32s2.specs.declared.tag.RtcCalibParam.the-variants.{Vlow, Vhigh, Vinit}
+use Rattle.esp32s2.specs.Tag.{byVersion, firstTag, tagOf}
 
 version-most : (version one two : ℕ) → one ≤ 25 → two ≤ 25 → byVersion version one two ≤ 25
 unfolding byVersion

@@ -10,9 +10,10 @@ use Rattle.terms.specs.Refuse.{refuse, orElse, answered}
 use Rattle.efuse.specs.Decoding.{decodingRefusal}
 use Rattle.esp32s2.specs.declared.code.Code.{Code}
 use Rattle.esp32s2.specs.declared.code.Code.the-variants.{Value, Refused}
-use Rattle.esp32s2.specs.declared.reading.RtcCalibParam.{RtcCalibParam}
-use Rattle.esp32s2.specs.declared.reading.RtcCalibParam.the-variants.{Vhigh, Vinit}
-use Rattle.esp32s2.specs.Reading.{readingOf, tagOf}
+use Rattle.esp32s2.specs.declared.tag.RtcCalibParam.{RtcCalibParam}
+use Rattle.esp32s2.specs.declared.tag.RtcCalibParam.the-variants.{Vhigh, Vinit}
+use Rattle.esp32s2.specs.Reading.{readingOf}
+use Rattle.esp32s2.specs.Tag.{tagOf}
 use Rattle.esp32s2.specs.Version.{versionOf}
 
 -- 1, 7 and those of the map

@@ -3,4 +3,5 @@ pub mod Encryption
 pub mod Reading
 pub mod Reference
 pub mod Table
+pub mod Tag
 pub mod Version

@@ -1,9 +1,8 @@
--- Document 01, "S2, C6 and curves": the readings of the S2's table. In the crate: `rtc_calib_parsed`, `rtc_calib_tag` and
--- `rtc_calib_reading` of efuse/esp32s2/mod.rs, from ESP-IDF's components/efuse/esp32s2/esp_efuse_rtc_table.c, line 145. Their refusals:
--- 1, 7.
+-- Document 01, "S2, C6 and curves": the readings of the S2's table. In the crate: `rtc_calib_parsed` and `rtc_calib_reading` of
+-- efuse/esp32s2/mod.rs, from ESP-IDF's components/efuse/esp32s2/esp_efuse_rtc_table.c, line 145. Their refusals: 1, 7.
 use mathlib.Core.Bool.{Bool, true, false, not, cond}
 use mathlib.Core.List.{List, []}
-use Prim.Native.Nat.{ℕ, zero, suc, _+_, _*_}
+use Prim.Native.Nat.{ℕ, zero, suc}
 use lib.IntN.{ℤ, pos, _+ℤ_, _*ℤ_}
 use lib.ListN.{length}
 use lib.Dec.{eqb}
@@ -11,11 +10,11 @@ use Rattle.terms.specs.Refuse.{refuse, unitRefusal, answered}
 use Rattle.terms.specs.Sign.{signMagnitude}
 use Rattle.efuse.specs.Field.{bitsOf}
 use Rattle.esp32s2.specs.declared.table.RtcCalibEntry.{RtcCalibEntry}
-use Rattle.esp32s2.specs.declared.reading.RtcCalibParam.{RtcCalibParam}
-use Rattle.esp32s2.specs.declared.reading.RtcCalibParam.the-variants.{Vlow, Vhigh, Vinit}
+use Rattle.esp32s2.specs.declared.tag.RtcCalibParam.{RtcCalibParam}
 use Rattle.esp32s2.specs.declared.reading.Reading.{Reading}
 use Rattle.esp32s2.specs.declared.reading.Reading.the-variants.{Value, Refused}
 use Rattle.esp32s2.specs.Table.{beginBit, bitLength, multiplier, base, depends, entryAt}
+use Rattle.esp32s2.specs.Tag.{tagOf}
 
 -- "its sign-magnitude field in block 2 times its multiplier"; "'skip the eFuse' drops the field term"
 unfoldable pub termOf : List ℕ → Bool → RtcCalibEntry → ℤ
@@ -33,20 +32,6 @@ within (suc n) dump skip tag =
 -- "each chain ends within four links"
 unfoldable pub readingOf : List ℕ → Bool → ℕ → ℤ
 readingOf = within 4
-
--- "unit × 4 + attenuation after 1, 9, 17 or 25 (v1 low, v1 high, v2 high, v2 init)": the first tag of a version and a parameter, or 0
-unfoldable pub byVersion : ℕ → ℕ → ℕ → ℕ
-byVersion version one two = cond (eqb version 1) one (cond (eqb version 2) two 0)
-
-abbrev pub firstTag : ℕ → RtcCalibParam → ℕ
-firstTag version Vlow = byVersion version 1 0
-firstTag version Vhigh = byVersion version 9 17
-firstTag version Vinit = byVersion version 0 25
-
--- "A version and parameter that don't pair give 0", as tag 0 does
-unfoldable pub tagOf : ℕ → ℕ → ℕ → RtcCalibParam → ℕ
-tagOf version unit atten param =
-    cond (eqb (firstTag version param) 0) 0 (firstTag version param + unit * 4 + atten)
 
 -- 1: the dump hasn't 88 words
 -- 7: unit above 1 or attenuation above 3

@@ -1,9 +1,9 @@
 // The S2's initial codes and reference codes, by unit and attenuation.
 use crate::field::BLK_VERSION_MINOR;
 use crate::field::value_at;
-use crate::reading::RtcCalibParam;
 use crate::reading::rtc_calib_parsed;
-use crate::reading::rtc_calib_tag;
+use crate::tag::RtcCalibParam;
+use crate::tag::rtc_calib_tag;
 use efuse::decoding::decoding_refusal;
 use terms::chip::MapChip;
 use terms::refusal;
@@ -14,7 +14,8 @@ ghost use Prim.Native.Nat.{_≤_};
 ghost use lib.IntN.{pos};
 ghost use lib.ListN.{length};
 ghost use Rattle.efuse.specs.Field.{eight};
-ghost use Rattle.esp32s2.specs.Reading.{readingOf, tagOf};
+ghost use Rattle.esp32s2.specs.Reading.{readingOf};
+ghost use Rattle.esp32s2.specs.Tag.{tagOf};
 ghost use Rattle.esp32s2.specs.Code.{codeRefusal, codeOf, initCodeOf, calCodeOf};
 
 const CODE_VERSION: u8 = 2;

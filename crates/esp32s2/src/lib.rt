@@ -6,4 +6,5 @@ mod field;
 pub mod reading;
 pub mod reference;
 mod table;
+pub mod tag;
 pub mod version;

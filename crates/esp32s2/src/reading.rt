@@ -1,5 +1,7 @@
 // The readings of the S2's calibration table.
 use crate::table::entry_at;
+use crate::tag::RtcCalibParam;
+use crate::tag::rtc_calib_tag;
 use efuse::field::EfuseField;
 use efuse::field::Read;
 use efuse::field::read_field_u32;
@@ -13,21 +15,11 @@ ghost use lib.ListN.{length};
 ghost use Rattle.terms.specs.Sign.{signMagnitude};
 ghost use Rattle.efuse.specs.Field.{bitsOf};
 ghost use Rattle.esp32s2.specs.Table.{entryAt};
-ghost use Rattle.esp32s2.specs.Reading.{termOf, readingOf, byVersion, firstTag, tagOf, readingRefusal, calibReadingOf, skippedReadingOf};
+ghost use Rattle.esp32s2.specs.Reading.{termOf, readingOf, readingRefusal, calibReadingOf, skippedReadingOf};
 
 const DUMP_WORDS: usize = 88;
 
 const TABLE_BLOCK: u8 = 2;
-
-// What is read of the table.
-pub enum RtcCalibParam {
-    // Low-voltage reading, of version 1.
-    Vlow,
-    // High-voltage reading.
-    Vhigh,
-    // Initial code, of version 2.
-    Vinit,
-}
 
 // A reading, or why there is none.
 pub enum Reading {
@@ -91,41 +83,6 @@ pub(crate) fn rtc_calib_parsed(dump: &[u32], tag: u8, skip_efuse: bool) -> i32
     let base = entry.3;
     let depends = entry.4;
     raw(dump, tag, skip_efuse) + (base as i32) + rtc_calib_parsed(dump, depends, skip_efuse)
-}
-
-fn by_version(version: u8, one: u8, two: u8) -> u8
-    ensures { λ r. ⌜ r ≡ byVersion version one two ⌝ }
-{
-    if version == 1 {
-        return one;
-    }
-    if version == 2 {
-        return two;
-    }
-    0
-}
-
-// The first tag of a version and a parameter, or 0 where they don't pair.
-fn first_tag(version: u8, param: RtcCalibParam) -> u8
-    ensures { λ r. ⌜ r ≡ firstTag version param ⌝ }
-{
-    match param {
-        RtcCalibParam::Vlow => by_version(version, 1, 0),
-        RtcCalibParam::Vhigh => by_version(version, 9, 17),
-        RtcCalibParam::Vinit => by_version(version, 0, 25),
-    }
-}
-
-// The tag of a version, unit, attenuation and parameter, or 0 where version and parameter don't pair.
-pub(crate) fn rtc_calib_tag(version: u8, unit: u8, atten: u8, param: RtcCalibParam) -> u8
-    requires { ⌜ (unit ≤ 1) × (atten ≤ 3) ⌝ }
-    ensures { λ r. ⌜ r ≡ tagOf version unit atten param ⌝ }
-{
-    let offset = first_tag(version, param);
-    if offset == 0 {
-        return 0;
-    }
-    offset + unit * 4 + atten
 }
 
 // The first thing wrong with a reading: 1, 7.

@@ -8,7 +8,8 @@ use mir.ValLaws.{toZ-ofZ}
 use denote.Ref.{now}
 use borrow.Author.Needs.{needs, sfits-of}
 use Rattle.terms.proofs.Machine.{cast-fits}
-use Rattle.esp32s2.specs.Reading.{readingOf, tagOf}
+use Rattle.esp32s2.specs.Reading.{readingOf}
+use Rattle.esp32s2.specs.Tag.{tagOf}
 use Rattle.esp32s2.proofs.Chains.{reading-whole}
 use Rattle.esp32s2.proofs.Fits.{reading-small}
 use Rattle.esp32s2.proofs.Tags.{tag-in-table}

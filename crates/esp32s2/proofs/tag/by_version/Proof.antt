@@ -1,8 +1,8 @@
 -- `esp32s2::by_version` meets its contract: at each `return` the tests that led there decide the definition's. Assumes nothing.
 use borrow.Author.Tests.{eq-eqb, ne-eqb}
-use Rattle.esp32s2.specs.Reading.{byVersion}
-use Rattle.esp32s2.proofs.reading.by_version.Statement.{statement}
-use Rattle.esp32s2.proofs.reading.by_version.Tie as tie
+use Rattle.esp32s2.specs.Tag.{byVersion}
+use Rattle.esp32s2.proofs.tag.by_version.Statement.{statement}
+use Rattle.esp32s2.proofs.tag.by_version.Tie as tie
 
 returns : tie.Need-returns
 unfolding byVersion

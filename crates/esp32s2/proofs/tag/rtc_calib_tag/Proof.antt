@@ -3,10 +3,10 @@
 use native.Mathlib.Omega.{arith}
 use borrow.Author.Needs.{needs}
 use borrow.Author.Tests.{eq-eqb, ne-eqb}
-use Rattle.esp32s2.specs.Reading.{tagOf}
+use Rattle.esp32s2.specs.Tag.{tagOf}
 use Rattle.esp32s2.proofs.Tags.{first-most}
-use Rattle.esp32s2.proofs.reading.rtc_calib_tag.Statement.{statement}
-use Rattle.esp32s2.proofs.reading.rtc_calib_tag.Tie as tie
+use Rattle.esp32s2.proofs.tag.rtc_calib_tag.Statement.{statement}
+use Rattle.esp32s2.proofs.tag.rtc_calib_tag.Tie as tie
 
 first-tag-requires : tie.Need-first-tag-requires
 first-tag-requires c κs = search needs

@@ -1,9 +1,9 @@
 -- `esp32s2::first_tag` meets its contract: in each arm the parameter is known. Assumes nothing.
 use mathlib.Core.Path.{sym, _∙_, ap}
 use borrow.Author.Needs.{needs}
-use Rattle.esp32s2.specs.Reading.{firstTag}
-use Rattle.esp32s2.proofs.reading.first_tag.Statement.{statement}
-use Rattle.esp32s2.proofs.reading.first_tag.Tie as tie
+use Rattle.esp32s2.specs.Tag.{firstTag}
+use Rattle.esp32s2.proofs.tag.first_tag.Statement.{statement}
+use Rattle.esp32s2.proofs.tag.first_tag.Tie as tie
 
 enum-told : tie.Need-enum-told
 enum-told c = search needs
