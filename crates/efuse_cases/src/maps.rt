@@ -15,21 +15,22 @@ fn chip_of(number: u8) -> MapChip {
     }
 }
 
+// Changes a byte of a map: its place, then its value.
+fn put_change(map: &mut [u8], change: &[u8]) {
+    replay::put(
+        map,
+        replay::number8(change, 0) as usize,
+        replay::part(change, 1, 1),
+    );
+}
+
 // Whether a map is checked as the case says.
 pub(crate) fn same_map(good_maps: &[u8], case: &[u8]) -> bool {
     let good = replay::part(good_maps, GOOD * (replay::number8(case, 0) as usize), GOOD);
     let mut map = [0u8; 128];
     replay::put(&mut map, 0, replay::part(good, GOOD_MAP, GOOD));
-    replay::put(
-        &mut map,
-        replay::number8(case, 2) as usize,
-        replay::part(case, 3, 1),
-    );
-    replay::put(
-        &mut map,
-        replay::number8(case, 4) as usize,
-        replay::part(case, 5, 1),
-    );
+    put_change(&mut map, replay::part(case, 2, 2));
+    put_change(&mut map, replay::part(case, 4, 2));
     let lent = replay::part(&map, 0, replay::number8(case, 1) as usize);
     let got = map::check_map(chip_of(replay::number8(good, 0)), lent);
     replay::same_outcome(got, replay::number8(case, 6))
