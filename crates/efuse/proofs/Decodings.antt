@@ -1,6 +1,6 @@
 -- Laws of the refusals that decoding begins with: what is known where nothing is refused, that each field may then be read, and how
 -- many bits it has. Assumes nothing.
-use mathlib.Core.Path.{_≡_, refl, sym, _∙_, ap}
+use mathlib.Core.Path.{_≡_, sym, _∙_, ap}
 use mathlib.Core.Bool.{Bool, not, _||_}
 use mathlib.Core.List.{List}
 use Prim.Native.Nat.{ℕ, _+_, _-_, _^_, _≤_, _<_}
@@ -20,7 +20,7 @@ use Rattle.efuse.specs.Map.{idsOf, fieldOf, countsOf, countRefusal, mapR
 use Rattle.efuse.specs.Decoding.{fieldsRefusal, decodingRefusal, valueAt}
 use Rattle.efuse.proofs.Bits.{bits-fit}
 use Rattle.efuse.proofs.Maps.{map-record, map-read, record-good}
-use Rattle.efuse.proofs.Places.{read-value}
+use Rattle.efuse.proofs.Places.{read-is, read-there}
 
 -- a bit count that isn't refused is no more than the table says
 count-most : (id count : ℕ) → countRefusal id count ≡ 0 → count ≤ countsOf id .max
@@ -83,12 +83,9 @@ module _ (words : ℕ → ℕ) (chip : MapChip) (dump map : List ℕ) where
 
     -- so that a reading of it has that value, and isn't refused
     module _ {f : EfuseField} (e : f ≡ field) {r : Read} (q : r ≡ readOf 32 words dump f) where
-      value-of : r ≡ Value (valueAt chip dump map id)
-      unfolding valueAt
-      value-of = q ∙ ap (readOf 32 words dump) e ∙ sym (read-value words dump field 32 value-read refl)
-
       pub value-is : {v : ℕ} → r ≡ Value v → v ≡ valueAt chip dump map id
-      value-is h = cc value-of
+      unfolding valueAt
+      value-is h = read-is words dump field 32 value-read (q ∙ ap (readOf 32 words dump) e) h
 
       pub value-there : {x : Refusal} → r ≡ Refused x → ⊥
-      value-there h = let z : _≡_ {A = ℕ} 0 1 = cc value-of in omega arith
+      value-there h = read-there words dump field 32 value-read (q ∙ ap (readOf 32 words dump) e) h

@@ -46,7 +46,7 @@ offsetOf version atten = cond (eqb version 1) 1500 (cond (eqb atten 2) 2900 2850
 unfoldable pub calCode : ℕ → ℕ → ℕ → ℤ
 calCode version atten bits = pos (offsetOf version atten) +ℤ signMagnitude 10 bits
 
--- by the bits of ADC1_CAL_VOL_ATTEN0..3, ids 13 to 16; the code is never negative (`cal-code-range`)
+-- by the bits of ADC1_CAL_VOL_ATTEN0..3, ids 13 to 16; the code is never negative (`cal-code-whole`)
 unfoldable pub calCodeOf : (ℕ → ℕ) → List ℕ → List ℕ → ℕ → ℕ → ℕ → Code
 calCodeOf words dump map minor unit atten =
     answered (codeRefusal words dump map minor unit atten)

@@ -8,7 +8,7 @@ use lib.Dec.{T}
 use lib.IntN.{ℤ, pos, natAbs, negℤ, _-ℤ_, +ℤ-idl}
 use lib.Pow.{pow-mono, shl-exact}
 use lib.Signed.{nonNeg}
-use mir.Syntax.{Width, w32}
+use mir.Syntax.{Width, w16, w32}
 use mir.Val.{SFits, Fits, bits, toZ, ofZ}
 use mir.ValLaws.{toZ-ofZ, toZ-pos}
 use Rattle.terms.specs.Sign.{signMagnitude}
@@ -26,6 +26,14 @@ module _ (w : Width) (op : ℤ → ℤ → ℤ) {m n x y : ℤ} (a : m ≡ x) (b
 -- a number that isn't negative, cast to an unsigned width that holds it
 pub cast-fits : (w : Width) (z : ℤ) (n : ℕ) → z ≡ pos n → n < 2 ^ bits w → T (nonNeg z) × Fits w (natAbs z)
 cast-fits w z n e h = rw e (tt, record { fits = h })
+
+-- a number of 16 bits, cast to 32
+module _ (z : ℤ) (h : SFits w16 z) where
+  pub wider-fits : SFits w32 (toZ w16 (ofZ w16 z))
+  wider-fits = rw (toZ-ofZ w16 z h) (record { sfits = omega (arith, h .sfits) })
+
+  pub wider-back : toZ w32 (ofZ w32 (toZ w16 (ofZ w16 z))) ≡ z
+  wider-back = toZ-ofZ w32 _ wider-fits ∙ toZ-ofZ w16 z h
 
 -- one, shifted by less than the width
 pub one-shifted : (s : ℕ) → s ≤ 31 → (1 * 2 ^ s) % 2 ^ 32 ≡ 2 ^ s

@@ -1,0 +1,11 @@
+pub mod Answers
+pub mod Chains
+pub mod Codes
+pub mod Fields
+pub mod Fits
+pub mod Ones
+pub mod Ranges
+pub mod Readings
+pub mod Rule
+pub mod Tags
+pub mod Unique

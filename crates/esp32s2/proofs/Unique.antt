@@ -1,0 +1,32 @@
+-- Each public call's promise, as the check reads it from the source, admits one answer per input: it is an equation.
+-- Assumes nothing.
+use mathlib.Core.Path.{sym, _∙_}
+use Rattle.terms.proofs.OneAnswer.{OneAnswer}
+use Rattle.esp32s2.proofs.version.rtc_calib_version.Reads as rtc-calib-version
+use Rattle.esp32s2.proofs.reading.rtc_calib_reading.Reads as rtc-calib-reading
+use Rattle.esp32s2.proofs.reading.rtc_calib_reading_skipped.Reads as rtc-calib-reading-skipped
+use Rattle.esp32s2.proofs.code.rtc_calib_init_code.Reads as rtc-calib-init-code
+use Rattle.esp32s2.proofs.code.rtc_calib_cal_code.Reads as rtc-calib-cal-code
+use Rattle.esp32s2.proofs.reference.rtc_calib_cal_mv.Reads as rtc-calib-cal-mv
+use Rattle.esp32s2.proofs.encryption.flash_encryption.Reads as flash-encryption
+
+pub rtc-calib-version-one : OneAnswer (λ κs z e. z) rtc-calib-version.Post
+rtc-calib-version-one κs a z z′ e e′ p q = p ∙ sym q
+
+pub rtc-calib-reading-one : OneAnswer (λ κs z e. z) rtc-calib-reading.Post
+rtc-calib-reading-one κs a z z′ e e′ p q = p ∙ sym q
+
+pub rtc-calib-reading-skipped-one : OneAnswer (λ κs z e. z) rtc-calib-reading-skipped.Post
+rtc-calib-reading-skipped-one κs a z z′ e e′ p q = p ∙ sym q
+
+pub rtc-calib-init-code-one : OneAnswer (λ κs z e. z) rtc-calib-init-code.Post
+rtc-calib-init-code-one κs a z z′ e e′ p q = p ∙ sym q
+
+pub rtc-calib-cal-code-one : OneAnswer (λ κs z e. z) rtc-calib-cal-code.Post
+rtc-calib-cal-code-one κs a z z′ e e′ p q = p ∙ sym q
+
+pub rtc-calib-cal-mv-one : OneAnswer (λ κs z e. z) rtc-calib-cal-mv.Post
+rtc-calib-cal-mv-one κs a z z′ e e′ p q = p ∙ sym q
+
+pub flash-encryption-one : OneAnswer (λ κs z e. z) flash-encryption.Post
+flash-encryption-one κs a z z′ e e′ p q = p ∙ sym q

@@ -1,0 +1,53 @@
+-- `esp32s2::rtc_calib_reading_skipped` meets its contract: where nothing is refused the tag is in the table, and no dump is read.
+-- Assumes nothing.
+use mathlib.Core.Path.{sym, _∙_, ap}
+use mathlib.Core.Bool.{true}
+use mir.Syntax.{w32}
+use mir.ValLaws.{toZ-ofZ}
+use borrow.Author.Needs.{needs, sfits-of}
+use Rattle.terms.proofs.Refusals.{answered-good, answered-refused, unit-inside}
+use Rattle.esp32s2.specs.declared.reading.Reading.the-variants.{Value, Refused}
+use Rattle.esp32s2.specs.Reading.{readingOf, skippedReadingOf}
+use Rattle.esp32s2.proofs.Tags.{tag-in-table}
+use Rattle.esp32s2.proofs.reading.rtc_calib_reading_skipped.Statement.{statement}
+use Rattle.esp32s2.proofs.reading.rtc_calib_reading_skipped.Tie as tie
+
+unit-refusal-requires : tie.Need-unit-refusal-requires
+unit-refusal-requires c κs = search needs
+
+returns : tie.Need-returns
+unfolding skippedReadingOf
+returns c = answered-refused _ _ Refused (c .before .unit-refusal .ensures) (c .if1 .taken)
+
+slice-aggregate-rtc-calib-parsed : tie.Need-slice-aggregate-rtc-calib-parsed
+slice-aggregate-rtc-calib-parsed c = search needs
+
+rtc-calib-tag-requires : tie.Need-rtc-calib-tag-requires
+rtc-calib-tag-requires c κs = unit-inside _ _ (sym (c .before .before .unit-refusal .ensures) ∙ c .before .if1 .left)
+
+rtc-calib-parsed-requires : tie.Need-rtc-calib-parsed-requires
+rtc-calib-parsed-requires c κs =
+    let p = c .before .before in
+    let good = unit-inside _ _ (sym (p .before .unit-refusal .ensures) ∙ p .if1 .left) in
+    (λ e. cc, rw (c .rtc-calib-tag .ensures) (tag-in-table _ _ _ _ (good .0) (good .1)))
+
+returns-2 : tie.Need-returns-2
+unfolding skippedReadingOf
+returns-2 c =
+    let p = c .before .before .before in
+    answered-good _ _ Refused (sym (p .before .unit-refusal .ensures) ∙ p .if1 .left)
+    (ap Value
+    (toZ-ofZ w32 _ (sfits-of (c .rtc-calib-parsed .ok))
+    ∙ c .rtc-calib-parsed .ensures
+    ∙ ap (readingOf _ true) (c .before .rtc-calib-tag .ensures)))
+
+pub rtc-calib-reading-skipped-spec : {M : Type 1} → statement M
+rtc-calib-reading-skipped-spec =
+    tie.close
+    (tie.spec
+    unit-refusal-requires
+    returns
+    slice-aggregate-rtc-calib-parsed
+    rtc-calib-tag-requires
+    rtc-calib-parsed-requires
+    returns-2)

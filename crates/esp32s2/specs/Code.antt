@@ -1,0 +1,44 @@
+-- Document 01, "S2, C6 and curves": the S2's initial and reference codes. In the crate: `rtc_calib_init_code` and `rtc_calib_cal_code`
+-- of efuse/esp32s2/mod.rs. Their refusals: 1, 7, those of the map, 12.
+use mathlib.Core.Bool.{false, not}
+use mathlib.Core.List.{List}
+use Prim.Native.Nat.{ℕ}
+use lib.Dec.{eqb}
+use lib.IntN.{natAbs}
+use Rattle.terms.specs.declared.chip.MapChip.the-variants.{S2}
+use Rattle.terms.specs.Refuse.{refuse, orElse, answered}
+use Rattle.efuse.specs.Decoding.{decodingRefusal}
+use Rattle.esp32s2.specs.declared.code.Code.{Code}
+use Rattle.esp32s2.specs.declared.code.Code.the-variants.{Value, Refused}
+use Rattle.esp32s2.specs.declared.tag.RtcCalibParam.{RtcCalibParam}
+use Rattle.esp32s2.specs.declared.tag.RtcCalibParam.the-variants.{Vhigh, Vinit}
+use Rattle.esp32s2.specs.Reading.{readingOf}
+use Rattle.esp32s2.specs.Tag.{tagOf}
+use Rattle.esp32s2.specs.Version.{versionOf}
+
+-- 1, 7 and those of the map
+-- 12: S2 version not 2
+unfoldable pub codeRefusal : (ℕ → ℕ) → List ℕ → List ℕ → ℕ → ℕ → ℕ
+codeRefusal words dump map unit atten =
+    orElse (decodingRefusal words S2 dump map unit atten)
+    (refuse (not (eqb (versionOf dump map) 2)) 12 0)
+
+-- document 01's number and value of a code, zeros beside a refusal
+abbrev pub numberOf : Code → ℕ
+numberOf (Value code) = 0
+numberOf (Refused r) = r .number
+
+abbrev pub valueOf : Code → ℕ
+valueOf (Value code) = code
+valueOf (Refused r) = 0
+
+-- version 2's reading of a parameter, which is never negative (`code-whole`)
+unfoldable pub codeOf : (ℕ → ℕ) → List ℕ → List ℕ → ℕ → ℕ → RtcCalibParam → Code
+codeOf words dump map unit atten param =
+    answered (codeRefusal words dump map unit atten) (Value (natAbs (readingOf dump false (tagOf 2 unit atten param)))) Refused
+
+abbrev pub initCodeOf : (ℕ → ℕ) → List ℕ → List ℕ → ℕ → ℕ → Code
+initCodeOf words dump map unit atten = codeOf words dump map unit atten Vinit
+
+abbrev pub calCodeOf : (ℕ → ℕ) → List ℕ → List ℕ → ℕ → ℕ → Code
+calCodeOf words dump map unit atten = codeOf words dump map unit atten Vhigh

@@ -1,0 +1,59 @@
+-- Document 01, "S2, C6 and curves": the readings of the S2's table. In the crate: `rtc_calib_parsed` and `rtc_calib_reading` of
+-- efuse/esp32s2/mod.rs, from ESP-IDF's components/efuse/esp32s2/esp_efuse_rtc_table.c, line 145. Their refusals: 1, 7.
+use mathlib.Core.Bool.{Bool, true, false, not, cond}
+use mathlib.Core.List.{List, []}
+use Prim.Native.Nat.{ℕ, zero, suc}
+use lib.IntN.{ℤ, pos, _+ℤ_, _*ℤ_}
+use lib.ListN.{length}
+use lib.Dec.{eqb}
+use Rattle.terms.specs.Refuse.{refuse, unitRefusal, answered}
+use Rattle.terms.specs.Sign.{signMagnitude}
+use Rattle.efuse.specs.Field.{bitsOf}
+use Rattle.esp32s2.specs.declared.table.RtcCalibEntry.{RtcCalibEntry}
+use Rattle.esp32s2.specs.declared.tag.RtcCalibParam.{RtcCalibParam}
+use Rattle.esp32s2.specs.declared.reading.Reading.{Reading}
+use Rattle.esp32s2.specs.declared.reading.Reading.the-variants.{Value, Refused}
+use Rattle.esp32s2.specs.Table.{beginBit, bitLength, multiplier, base, depends, entryAt}
+use Rattle.esp32s2.specs.Tag.{tagOf}
+
+-- "its sign-magnitude field in block 2 times its multiplier"; "'skip the eFuse' drops the field term"
+unfoldable pub termOf : List ℕ → Bool → RtcCalibEntry → ℤ
+termOf dump skip e =
+    cond skip (pos 0)
+    (signMagnitude (bitLength e) (bitsOf dump 2 (beginBit e) (bitLength e)) *ℤ multiplier e)
+
+-- that term, "plus its base, plus the reading of the tag it depends on, down to tag 0, which is 0", or down to n links
+unfoldable pub within : ℕ → List ℕ → Bool → ℕ → ℤ
+within zero dump skip tag = pos 0
+within (suc n) dump skip tag =
+    cond (eqb tag 0) (pos 0)
+    (termOf dump skip (entryAt tag) +ℤ base (entryAt tag) +ℤ within n dump skip (depends (entryAt tag)))
+
+-- "each chain ends within four links"
+unfoldable pub readingOf : List ℕ → Bool → ℕ → ℤ
+readingOf = within 4
+
+-- 1: the dump hasn't 88 words
+-- 7: unit above 1 or attenuation above 3
+unfoldable pub readingRefusal : List ℕ → ℕ → ℕ → ℕ
+readingRefusal dump unit atten =
+    refuse (not (eqb (length dump) 88)) 1
+    (unitRefusal unit atten)
+
+-- document 01's number and value of a reading, zeros beside a refusal
+abbrev pub numberOf : Reading → ℕ
+numberOf (Value z) = 0
+numberOf (Refused r) = r .number
+
+abbrev pub valueOf : Reading → ℤ
+valueOf (Value z) = z
+valueOf (Refused r) = pos 0
+
+unfoldable pub calibReadingOf : List ℕ → ℕ → ℕ → ℕ → RtcCalibParam → Reading
+calibReadingOf dump version unit atten param =
+    answered (readingRefusal dump unit atten) (Value (readingOf dump false (tagOf version unit atten param))) Refused
+
+-- the same with the eFuse skipped, so that there is no dump
+unfoldable pub skippedReadingOf : ℕ → ℕ → ℕ → RtcCalibParam → Reading
+skippedReadingOf version unit atten param =
+    answered (unitRefusal unit atten) (Value (readingOf [] true (tagOf version unit atten param))) Refused

@@ -1,0 +1,25 @@
+-- Document 01, "S2, C6 and curves": the version of the S2's calibration. In the crate: `rtc_calib_version` of efuse/esp32s2/mod.rs, from
+-- ESP-IDF's components/efuse/esp32s2/esp_efuse_rtc_table.c, line 92. Its refusals: 1, those of the map.
+use mathlib.Core.List.{List}
+use Prim.Native.Nat.{ℕ}
+use Rattle.terms.specs.declared.chip.MapChip.the-variants.{S2}
+use Rattle.terms.specs.Refuse.{answered}
+use Rattle.efuse.specs.Decoding.{fieldsRefusal, valueAt}
+use Rattle.esp32s2.specs.declared.version.Version.{Version}
+use Rattle.esp32s2.specs.declared.version.Version.the-variants.{Value, Refused}
+
+-- document 01's number and value of a version, zeros beside a refusal
+abbrev pub numberOf : Version → ℕ
+numberOf (Value version) = 0
+numberOf (Refused r) = r .number
+
+abbrev pub valueOf : Version → ℕ
+valueOf (Value version) = version
+valueOf (Refused r) = 0
+
+-- the bits of BLK_VERSION_MINOR, id 7
+abbrev pub versionOf : List ℕ → List ℕ → ℕ
+versionOf dump map = valueAt S2 dump map 7
+
+unfoldable pub calibVersionOf : (ℕ → ℕ) → List ℕ → List ℕ → Version
+calibVersionOf words dump map = answered (fieldsRefusal words S2 dump map) (Value (versionOf dump map)) Refused

@@ -1,0 +1,74 @@
+// The S2's initial codes and reference codes, by unit and attenuation.
+use crate::field::BLK_VERSION_MINOR;
+use crate::field::value_at;
+use crate::reading::rtc_calib_parsed;
+use crate::tag::RtcCalibParam;
+use crate::tag::rtc_calib_tag;
+use efuse::decoding::decoding_refusal;
+use terms::chip::MapChip;
+use terms::refusal;
+use terms::refusal::Refusal;
+ghost use mathlib.Core.Path.{_≡_};
+ghost use mathlib.Core.Bool.{false};
+ghost use Prim.Native.Nat.{_≤_};
+ghost use lib.IntN.{pos};
+ghost use lib.ListN.{length};
+ghost use Rattle.efuse.specs.Field.{eight};
+ghost use Rattle.esp32s2.specs.Reading.{readingOf};
+ghost use Rattle.esp32s2.specs.Tag.{tagOf};
+ghost use Rattle.esp32s2.specs.Code.{codeRefusal, codeOf, initCodeOf, calCodeOf};
+
+const CODE_VERSION: u8 = 2;
+
+// A code, or why there is none.
+pub enum Code {
+    Value(u16),
+    Refused(Refusal),
+}
+
+// The first thing wrong with a call for a code: 1, 7, the map's, 12.
+fn code_refusal(dump: &[u32], map: &[u8], unit: u8, atten: u8) -> u8
+    ensures { λ r. ⌜ r ≡ codeRefusal eight (now (dump .entry)) (now (map .entry)) unit atten ⌝ }
+{
+    let number = decoding_refusal(MapChip::S2, dump, map, unit, atten);
+    if number != refusal::NONE {
+        return number;
+    }
+    if value_at(dump, map, BLK_VERSION_MINOR) != CODE_VERSION {
+        return refusal::VERSION;
+    }
+    refusal::NONE
+}
+
+// A reading of version 2 as a code of 16 bits.
+fn code_at(dump: &[u32], unit: u8, atten: u8, param: RtcCalibParam) -> u16
+    requires { ⌜ (length (now dump) ≡ 88) × (unit ≤ 1) × (atten ≤ 3) ⌝ }
+    ensures { λ r. ⌜ pos r ≡ readingOf (now (dump .entry)) false (tagOf 2 unit atten param) ⌝ }
+{
+    rtc_calib_parsed(dump, rtc_calib_tag(CODE_VERSION, unit, atten, param), false) as u16
+}
+
+// The code of a parameter, or its refusal.
+fn code_of(dump: &[u32], map: &[u8], unit: u8, atten: u8, param: RtcCalibParam) -> Code
+    ensures { λ r. ⌜ r ≡ codeOf eight (now (dump .entry)) (now (map .entry)) unit atten param ⌝ }
+{
+    let number = code_refusal(dump, map, unit, atten);
+    if number != refusal::NONE {
+        return Code::Refused(Refusal { number });
+    }
+    Code::Value(code_at(dump, unit, atten, param))
+}
+
+// The ADC's initial code for a unit and an attenuation: from 577 to 7986. Refusals 1, 7, the map's, 12.
+pub fn rtc_calib_init_code(dump: &[u32], map: &[u8], unit: u8, atten: u8) -> Code
+    ensures { λ r. ⌜ r ≡ initCodeOf eight (now (dump .entry)) (now (map .entry)) unit atten ⌝ }
+{
+    code_of(dump, map, unit, atten, RtcCalibParam::Vinit)
+}
+
+// The ADC's code at the reference voltage of a unit and an attenuation: from 577 to 7986. Refusals 1, 7, the map's, 12.
+pub fn rtc_calib_cal_code(dump: &[u32], map: &[u8], unit: u8, atten: u8) -> Code
+    ensures { λ r. ⌜ r ≡ calCodeOf eight (now (dump .entry)) (now (map .entry)) unit atten ⌝ }
+{
+    code_of(dump, map, unit, atten, RtcCalibParam::Vhigh)
+}

@@ -1,0 +1,34 @@
+// The S2's flash encryption.
+use crate::field::SPI_BOOT_CRYPT_CNT;
+use crate::field::value_at;
+use efuse::decoding::fields_refusal;
+use terms::chip::MapChip;
+use terms::refusal;
+use terms::refusal::Refusal;
+ghost use mathlib.Core.Path.{_≡_};
+ghost use Rattle.efuse.specs.Field.{eight};
+ghost use Rattle.esp32s2.specs.Encryption.{oddOnes, flashEncryptionOf};
+
+// Whether flash encryption is on, or why that isn't known.
+pub enum FlashEncryption {
+    Value(bool),
+    Refused(Refusal),
+}
+
+// Whether a number has an odd number of ones.
+fn odd_ones(count: u8) -> bool
+    ensures { λ r. ⌜ r ≡ oddOnes count ⌝ }
+{
+    u8::count_ones(count) % 2 == 1
+}
+
+// Whether flash encryption is on. Refusals 1, the map's.
+pub fn flash_encryption(dump: &[u32], map: &[u8]) -> FlashEncryption
+    ensures { λ r. ⌜ r ≡ flashEncryptionOf eight (now (dump .entry)) (now (map .entry)) ⌝ }
+{
+    let number = fields_refusal(MapChip::S2, dump, map);
+    if number != refusal::NONE {
+        return FlashEncryption::Refused(Refusal { number });
+    }
+    FlashEncryption::Value(odd_ones(value_at(dump, map, SPI_BOOT_CRYPT_CNT)))
+}

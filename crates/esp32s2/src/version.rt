@@ -1,0 +1,27 @@
+// The version of the S2's calibration.
+use crate::field::BLK_VERSION_MINOR;
+use crate::field::value_at;
+use efuse::decoding::fields_refusal;
+use terms::chip::MapChip;
+use terms::refusal;
+use terms::refusal::Refusal;
+ghost use mathlib.Core.Path.{_≡_};
+ghost use Rattle.efuse.specs.Field.{eight};
+ghost use Rattle.esp32s2.specs.Version.{calibVersionOf};
+
+// A version, or why there is none.
+pub enum Version {
+    Value(u8),
+    Refused(Refusal),
+}
+
+// The calibration's version. Refusals 1, the map's.
+pub fn rtc_calib_version(dump: &[u32], map: &[u8]) -> Version
+    ensures { λ r. ⌜ r ≡ calibVersionOf eight (now (dump .entry)) (now (map .entry)) ⌝ }
+{
+    let number = fields_refusal(MapChip::S2, dump, map);
+    if number != refusal::NONE {
+        return Version::Refused(Refusal { number });
+    }
+    Version::Value(value_at(dump, map, BLK_VERSION_MINOR))
+}
