@@ -13,6 +13,9 @@ pub record Difference (z : ℤ) (a b : ℕ) : Type 0 where
 pub less : (a b : ℕ) → Difference (pos a -ℤ pos b) a b
 less a b = record { is = omega (arith, sum-is (pos a) (negℤ (pos b)), up-neg (pos b), dn-neg (pos b)) }
 
+pub minus : (z : ℤ) (n : ℕ) → Difference (z -ℤ pos n) (up z) (dn z + n)
+minus z n = record { is = omega (arith, sum-is z (negℤ (pos n)), up-neg (pos n), dn-neg (pos n)) }
+
 pub plus : {y z : ℤ} {a b c d : ℕ} → Difference y a b → Difference z c d → Difference (y +ℤ z) (a + c) (b + d)
 plus {y} {z} p q = record { is = omega (arith, sum-is y z) }
 

@@ -1,0 +1,9 @@
+pub mod Answers
+pub mod Corrections
+pub mod Doubles
+pub mod Parts
+pub mod Sound
+pub mod Spans
+pub mod Tables
+pub mod Unique
+pub mod Walk

@@ -1,0 +1,5 @@
+pub mod Correct
+pub mod Curves
+pub mod Decimal
+pub mod Flat
+pub mod Table

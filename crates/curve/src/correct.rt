@@ -1,0 +1,95 @@
+// The curve's correction of a line answer: `adc_val` of the crate's `AdcCalCurve`, calibration/curve.rs.
+use crate::flat::coeff;
+use crate::flat::part_of;
+use crate::table::LAST_TABLE;
+use crate::table::table_of;
+use terms::chip::Chip;
+use terms::refusal;
+use terms::refusal::Refusal;
+use terms::unit::Millivolt;
+ghost use mathlib.Core.Path.{_≡_};
+ghost use Prim.Native.Nat.{_<_, _≤_};
+ghost use lib.IntN.{pos, _+ℤ_, _*ℤ_};
+ghost use mir.Syntax.{w64};
+ghost use mir.Val.{SFits};
+ghost use Rattle.curve.specs.Correct.{horner, errorOf, correctedOf, correctOf};
+ghost use Rattle.curve.specs.Flat.{numbered, curveOf};
+ghost use Rattle.curve.specs.Table.{curveIn};
+
+// What a coefficient of 1 stands as.
+const COEFF_MUL: i64 = 4503599627370496;
+
+const LARGEST_LINE: u16 = 4095;
+
+// A corrected line answer, or why there is none.
+pub enum Corrected {
+    Answer(Millivolt),
+    Refused(Refusal),
+}
+
+// One step of Horner's rule.
+fn step(poly: i64, v: u16, c: i64) -> i64
+    requires { ⌜ SFits w64 (poly *ℤ pos v) × SFits w64 (poly *ℤ pos v +ℤ c) ⌝ }
+    ensures { λ r. ⌜ r ≡ poly *ℤ pos v +ℤ c ⌝ }
+{
+    poly * (v as i64) + c
+}
+
+// The error polynomial of curve k at v.
+fn poly_at(k: u8, v: u16) -> i64
+    requires { ⌜ (k < 40) × (1 ≤ v) × (v ≤ 4095) ⌝ }
+    ensures { λ r. ⌜ r ≡ horner (curveOf k) v ⌝ }
+{
+    let part = part_of(k);
+    let start = part.start;
+    let mut i = part.len;
+    let mut poly: i64 = 0;
+    while 0 < i {
+        i -= 1;
+        poly = step(poly, v, coeff(start + i));
+    }
+    poly
+}
+
+// The error of a line answer v by a table at an attenuation, in millivolts.
+fn error_of(table: u8, atten: u8, v: u16) -> i64
+    requires { ⌜ (table < 10) × (atten ≤ 3) × (v ≤ 4095) ⌝ }
+    ensures { λ r. ⌜ r ≡ errorOf (curveIn (numbered table) atten) v ⌝ }
+{
+    if v == 0 {
+        return 0;
+    }
+    poly_at(4 * table + atten, v) / COEFF_MUL
+}
+
+// A line answer v less its error.
+fn less_error(table: u8, atten: u8, v: u16) -> u16
+    requires { ⌜ (table < 10) × (atten ≤ 3) × (v ≤ 4095) ⌝ }
+    ensures { λ r. ⌜ r ≡ correctedOf (curveIn (numbered table) atten) v ⌝ }
+{
+    ((v as i64) - error_of(table, atten, v)) as u16
+}
+
+// Corrects a line answer by the curve of its chip, unit and attenuation. Any input is answered; refusals 7, 14, 13. The answer may be
+// above the line answer, and above 4095.
+pub fn correct(chip: Chip, unit: u8, atten: u8, line: Millivolt) -> Corrected
+    ensures { λ r. ⌜ r ≡ correctOf chip unit atten line ⌝ }
+{
+    let number = refusal::unit_refusal(unit, atten);
+    if number != refusal::NONE {
+        return Corrected::Refused(Refusal { number });
+    }
+    let table = table_of(chip, unit);
+    if LAST_TABLE < table {
+        return Corrected::Refused(Refusal {
+            number: refusal::CURVE,
+        });
+    }
+    let v = line.0;
+    if LARGEST_LINE < v {
+        return Corrected::Refused(Refusal {
+            number: refusal::LINE_ANSWER,
+        });
+    }
+    Corrected::Answer(Millivolt(less_error(table, atten, v)))
+}

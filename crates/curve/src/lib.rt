@@ -1,0 +1,4 @@
+// Curve correction of line answers, for the chips that have it.
+pub mod correct;
+pub(crate) mod flat;
+pub(crate) mod table;
