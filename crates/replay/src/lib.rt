@@ -156,6 +156,10 @@ pub fn good(value: i64) -> Answer {
     }
 }
 
+pub fn good_signed(value: i32) -> Answer {
+    good(value as i64)
+}
+
 pub fn refused(why: Refusal) -> Answer {
     Answer {
         number: why.number,
