@@ -2,7 +2,7 @@
 use efuse::field;
 use efuse::field::EfuseField;
 use efuse::field::Read;
-use terms::refusal;
+use replay::Answer;
 use terms::refusal::Outcome;
 
 // What lent bytes hold before a call.
@@ -17,11 +17,10 @@ fn field_of(case: &[u8]) -> EfuseField {
     }
 }
 
-// Whether a reading has that number and that value; a refusal's value counts as 0.
-fn same_read(got: Read, number: u8, value: u32) -> bool {
+fn answer(got: Read) -> Answer {
     match got {
-        Read::Value(v) => number == refusal::NONE && v == value,
-        Read::Refused(refused) => refused.number == number && value == 0,
+        Read::Value(value) => replay::good(value as i64),
+        Read::Refused(why) => replay::refused(why),
     }
 }
 
@@ -30,22 +29,12 @@ pub(crate) fn same_field(words: &[u32], case: &[u8]) -> bool {
     let dump = replay::lent(words, replay::number8(case, 0));
     let field = field_of(case);
     let number = replay::number8(case, 6);
-    let at8 = same_read(
-        field::read_field_u8(dump, field),
-        number,
-        replay::number8(case, 7) as u32,
-    );
-    let at16 = same_read(
-        field::read_field_u16(dump, field),
-        number,
-        replay::number16(case, 8) as u32,
-    );
-    let at32 = same_read(
-        field::read_field_u32(dump, field),
-        number,
-        replay::number32(case, 12),
-    );
-    at8 && at16 && at32
+    let at8 = replay::number8(case, 7) as i64;
+    let at16 = replay::number16(case, 8) as i64;
+    let at32 = replay::number32(case, 12) as i64;
+    replay::same_answer(answer(field::read_field_u8(dump, field)), number, at8)
+        && replay::same_answer(answer(field::read_field_u16(dump, field)), number, at16)
+        && replay::same_answer(answer(field::read_field_u32(dump, field)), number, at32)
 }
 
 // Reads a field into the first n of the bytes.
