@@ -1,10 +1,11 @@
 //! The crate as oracle. `fields`, `line`, `s2`, `c6` and `curve` ask the crate itself, which may panic; `answers` has
 //! document 01's answer to any input: its refusals in its order (`rules`), and past them the crate's answer. `document` has its
-//! formulas, written without the crate.
+//! formulas, written without the crate; `desk` has what the desk program writes.
 pub mod answers;
 pub mod c6;
 mod call;
 pub mod curve;
+pub mod desk;
 pub mod document;
 pub mod fields;
 pub mod line;

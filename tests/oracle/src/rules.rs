@@ -123,3 +123,8 @@ pub fn curve(chip: Chip, unit: u8) -> Answer<()> {
     };
     refuse(!has_curve, 14)
 }
+
+/// 15: board above 1, or a sample's last byte above 7.
+pub fn sample(board: u8, last: u8) -> Answer<()> {
+    refuse(board > 1 || last > 7, 15)
+}

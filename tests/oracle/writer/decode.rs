@@ -38,7 +38,8 @@ impl Codes {
         Self { vref, ..self }
     }
 
-    fn bits(self) -> [u32; 6] {
+    /// In the order of the ids.
+    pub fn bits(self) -> [u32; 6] {
         [self.vref, self.reserve, self.low[0], self.low[1], self.high[0], self.high[1]]
     }
 

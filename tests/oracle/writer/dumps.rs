@@ -63,7 +63,8 @@ impl Builder {
         Self::bits(field).enumerate().map(|(i, k)| bit(k) << i).sum()
     }
 
-    fn write(&mut self, field: Field, value: u32) {
+    /// Makes a place hold the value.
+    pub fn write(&mut self, field: Field, value: u32) {
         for (i, k) in Self::bits(field).enumerate() {
             let word = &mut self.dump[8 * usize::from(field.block) + k / 32];
             *word = *word & !(1 << (k % 32)) | (value >> i & 1) << (k % 32);

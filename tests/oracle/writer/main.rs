@@ -4,9 +4,11 @@ mod c6;
 mod convert;
 mod curve;
 mod decode;
+mod desk;
 mod dumps;
 mod fields;
 mod list;
+mod logs;
 mod maps;
 mod s2;
 
@@ -30,5 +32,6 @@ fn main() {
     ] {
         total += list.save(&root);
     }
+    total += desk::save(&root);
     println!("{total} bytes in all");
 }

@@ -1,0 +1,310 @@
+//! The desk's cases: sets of the program's four files, good and damaged, with all that it has to write on them.
+use std::collections::BTreeSet;
+use std::fs;
+use std::path::Path;
+
+use oracle::desk::{DUMP_FILE, SAMPLE, output};
+use oracle::fields::{Field, field_of};
+use oracle::noise::Noise;
+use oracle::plain::{dump_and_map, record};
+use oracle::rules::{MapChip, RECORD};
+
+use crate::decode::Codes;
+use crate::dumps::{Builder, ONES, ZEROS};
+use crate::logs;
+use crate::maps::{any_map, of_length, spoil};
+
+/// A file's bytes; none where it is missing.
+type File = Option<Vec<u8>>;
+
+/// The files of a case.
+#[derive(Clone)]
+struct Case {
+    field: File,
+    reference: File,
+    map: File,
+    samples: File,
+}
+
+impl Case {
+    /// All that the program writes.
+    fn output(&self) -> String {
+        let [field, reference, map, samples] =
+            [&self.field, &self.reference, &self.map, &self.samples].map(|file| file.as_deref().unwrap_or_default());
+        output(field, reference, map, samples)
+    }
+
+    /// The same with another log.
+    fn on(&self, samples: Vec<u8>) -> Self {
+        Self { samples: Some(samples), ..self.clone() }
+    }
+
+    /// The same with another map.
+    fn mapped(&self, map: Vec<u8>) -> Self {
+        Self { map: Some(map), ..self.clone() }
+    }
+}
+
+fn dump_file(words: &[u32]) -> Vec<u8> {
+    words.iter().flat_map(|word| word.to_le_bytes()).collect()
+}
+
+/// A dump of noise whose mapped fields hold the codes.
+fn board(noise: &mut Noise, map: &[u8], codes: Codes) -> Vec<u8> {
+    let mut dump = Builder::new(noise.dump());
+    for (k, bits) in codes.bits().into_iter().enumerate() {
+        dump.write(field_of(map, k), bits);
+    }
+    dump_file(&dump.dump)
+}
+
+/// A map with a word of block 0 for each field.
+fn plain_map() -> Vec<u8> {
+    dump_and_map(MapChip::Esp32, &[]).1
+}
+
+/// A map with its fields at the ends of blocks and across the edges of bytes and words.
+fn scattered_map() -> Vec<u8> {
+    let places = [(10, 251), (0, 255), (3, 29), (7, 249), (4, 90), (9, 247)];
+    let rows = MapChip::Esp32.rows().into_iter().zip(places);
+    let place = |block, bit_start, bit_count: u8| Field { block, bit_start, bit_count: bit_count.into() };
+    rows.flat_map(|((id, _, count), (block, start))| record(id, place(block, start, count))).collect()
+}
+
+/// Two-point codes that are good at both units.
+fn two_point(noise: &mut Noise) -> Codes {
+    Codes::any(noise, 1).with(0, 0x05, 0x1F0).with(1, 0x7D, 0x00C)
+}
+
+/// A two-point board and a Vref board under a map, with the short log.
+fn good(noise: &mut Noise, map: Vec<u8>) -> Case {
+    let two_point = two_point(noise);
+    let vref = Codes::any(noise, 0).with_vref(0x1B);
+    let (field, reference) = (board(noise, &map, two_point), board(noise, &map, vref));
+    Case { field: Some(field), reference: Some(reference), map: Some(map), samples: Some(logs::probe()) }
+}
+
+/// Document 01's example, whose output it gives.
+fn example() -> Case {
+    let zeros = Some(dump_file(&ZEROS));
+    let case = Case { field: zeros.clone(), reference: zeros, map: Some(plain_map()), samples: Some(logs::example()) };
+    assert_eq!(case.output(), "0 F 0 142\n1 R 2880 2462\n2 F 4096 refused 8\n");
+    case
+}
+
+/// The log of every change of key. A table that isn't refilled shows at every one: no two keys in turn have the same answer.
+fn every_change(case: &Case) -> Case {
+    let keys = logs::every_change();
+    let before: Vec<u8> = keys[..1].iter().chain(&keys).copied().take(keys.len()).collect();
+    let answers = |keys: &[u8]| -> Vec<String> {
+        let text = case.on(logs::rising(keys, 2800)).output();
+        text.lines().map(|line| line.rsplit(' ').next().expect("an answer").to_string()).collect()
+    };
+    for (i, (old, new)) in answers(&before).into_iter().zip(answers(&keys)).enumerate() {
+        assert!(old != new || keys[i] == before[i], "sample {i} would be the same without a refill");
+    }
+    case.on(logs::rising(&keys, 2800))
+}
+
+/// Both boards at every count of the list, with every change of key, and with samples of bad boards.
+fn good_cases(good: &Case) -> Vec<Case> {
+    let swapped = Case { field: good.reference.clone(), reference: good.field.clone(), ..good.clone() };
+    vec![
+        good.clone(),
+        good.on(logs::counts_by_key()),
+        swapped.on(logs::keys_by_count()),
+        good.on(logs::orders()),
+        every_change(&swapped),
+        good.on(logs::boards()),
+        good.on(logs::between()),
+    ]
+}
+
+/// Boards that are decoded at one unit only, and others at the ends of the rules.
+fn code_cases(noise: &mut Noise, good: &Case, map: &[u8]) -> Vec<Case> {
+    let codes = two_point(noise);
+    let mut with = |codes: Codes| Some(board(noise, map, codes));
+    // The last codes of unit 0 that are accepted; refused with 9 at unit 0 only; at unit 1 only; one code zero, so Vref.
+    let accepted = with(codes.with(0, 0x3F, 0x1BD));
+    let refused_at_0 = with(codes.with(0, 0x3F, 0x1BC));
+    let refused_at_1 = with(codes.with(1, 0x3F, 0x180));
+    let one_zero = with(codes.with(1, 0, 0x1FF));
+    let ones = Some(dump_file(&ONES));
+    let case = |field: &File, reference: &File| Case { field: field.clone(), reference: reference.clone(), ..good.clone() };
+    vec![
+        case(&accepted, &refused_at_0).on(logs::between()),
+        case(&refused_at_1, &refused_at_0).on(logs::between()),
+        case(&one_zero, &refused_at_1).on(logs::between()),
+        case(&refused_at_0, &refused_at_1),
+        case(&ones, &one_zero).on(logs::orders()),
+        case(&refused_at_0, &None),
+        case(&Some(Vec::new()), &refused_at_1),
+    ]
+}
+
+/// A file at other lengths, and missing.
+fn cut(file: &File, lengths: &[usize]) -> Vec<File> {
+    let whole = file.as_ref().expect("a file");
+    let lengths = lengths.iter().map(|length| Some(of_length(whole.clone(), *length)));
+    lengths.chain([None]).collect()
+}
+
+/// Each dump at other lengths and missing, alone and with other faults, which its number comes before or after.
+fn dump_cases(good: &Case) -> Vec<Case> {
+    let lengths = [DUMP_FILE - 1, DUMP_FILE + 1, 0, 348, 356, 2 * DUMP_FILE];
+    let mut cases = Vec::new();
+    for field in cut(&good.field, &lengths) {
+        cases.push(Case { field, ..good.clone() });
+    }
+    for reference in cut(&good.reference, &lengths) {
+        cases.push(Case { reference, ..good.clone() });
+    }
+    cases.push(Case { field: None, reference: None, ..good.clone() });
+    cases.push(Case { field: None, ..good.on(logs::between()) });
+    cases.push(Case { field: None, map: None, ..good.clone() });
+    cases.push(Case { reference: Some(Vec::new()), ..good.mapped(changed(&[(5, 0, 7)])) });
+    cases.push(Case { field: None, reference: None, map: None, samples: None });
+    cases
+}
+
+/// The plain map with the given bytes: its record, the place in it, and the byte.
+fn changed(bytes: &[(usize, usize, u8)]) -> Vec<u8> {
+    let mut map = plain_map();
+    bytes.iter().for_each(|(k, at, byte)| map[RECORD * k + at] = *byte);
+    map
+}
+
+/// The map at other lengths and missing, with one fault in its first record, a middle one or its last, with faults whose order
+/// matters, and beside codes that underflow.
+fn map_cases(noise: &mut Noise, good: &Case) -> Vec<Case> {
+    let mut maps = cut(&good.map, &[47, 49, 0, 8, 40, 56, 96]);
+    maps.extend([MapChip::S2, MapChip::C6].map(|chip| Some(any_map(noise, chip))));
+    for k in [0, 3, 5] {
+        let (id, count) = (k as u8 + 1, MapChip::Esp32.rows()[k].1);
+        let id_and_zero = [(0, id + 1), (5 + k % 3, 1)];
+        let block_and_start = [(1, 11), (3, 1), (2, (257 - u16::from(count)) as u8)];
+        let counts = [(4, count - 1), (4, count + 1)];
+        for (at, byte) in id_and_zero.into_iter().chain(block_and_start).chain(counts) {
+            maps.push(Some(changed(&[(k, at, byte)])));
+        }
+    }
+    // Within a record 3, 4, 5, 6; a record's fault before the next record's; the length before all.
+    maps.push(Some(changed(&[(1, 7, 9), (1, 1, 255), (1, 3, 2), (1, 4, 0)])));
+    maps.push(Some(changed(&[(1, 1, 255), (1, 3, 2), (1, 4, 0)])));
+    maps.push(Some(changed(&[(1, 3, 2), (1, 4, 0)])));
+    maps.push(Some(changed(&[(2, 4, 8), (3, 0, 0)])));
+    maps.push(Some(changed(&[(0, 2, 252), (4, 1, 11)])));
+    maps.push(Some(of_length(changed(&[(0, 0, 2)]), 47)));
+    let mut cases: Vec<Case> = maps.into_iter().map(|map| Case { map, ..good.clone() }).collect();
+    let underflow = two_point(noise).with(0, 0x3F, 0x1BC);
+    let field = Some(board(noise, &plain_map(), underflow));
+    cases.push(Case { field, ..good.mapped(changed(&[(5, 4, 8)])) });
+    cases
+}
+
+/// Logs that are missing or empty, with torn ends alone, after samples, after a refused one, and around the samples that are read
+/// at once.
+fn log_cases(noise: &mut Noise, good: &Case) -> Vec<Case> {
+    let mut cases = vec![Case { samples: None, ..good.clone() }, good.on(Vec::new())];
+    let three = logs::counts_by_key()[..3 * SAMPLE].to_vec();
+    for bytes in 1..SAMPLE {
+        cases.push(good.on(logs::torn(Vec::new(), bytes)));
+        cases.push(good.on(logs::torn(three.clone(), bytes)));
+        cases.push(good.on(logs::torn(logs::sample(0, 2, 0).to_vec(), bytes)));
+    }
+    cases.push(Case { field: None, reference: None, map: None, ..good.on(logs::torn(three, 3)) });
+    cases.push(good.on(logs::one_block()));
+    cases.push(good.on(logs::torn(logs::one_block(), 1)));
+    cases.push(good.on(logs::torn(logs::past_one_block(noise), 3)));
+    cases
+}
+
+/// Dumps and maps of noise, a map in three with a fault.
+fn any_case(noise: &mut Noise) -> Case {
+    let mut map = any_map(noise, MapChip::Esp32);
+    if noise.once_in(3) {
+        let k = noise.below(6) as usize;
+        spoil(noise, &mut map[RECORD * k..][..RECORD]);
+    }
+    let [field, reference] = [noise.dump(), noise.dump()].map(|dump| Some(dump_file(&dump)));
+    Case { field, reference, map: Some(map), samples: Some(logs::any(noise)) }
+}
+
+fn cases() -> Vec<Case> {
+    let noise = &mut Noise::new(12);
+    let plain = good(noise, plain_map());
+    let scattered = good(noise, scattered_map());
+    let mut cases = vec![example()];
+    cases.extend(good_cases(&plain));
+    cases.extend(good_cases(&scattered));
+    cases.extend(code_cases(noise, &plain, &plain_map()));
+    cases.extend(dump_cases(&plain));
+    cases.extend(map_cases(noise, &plain));
+    cases.extend(log_cases(noise, &plain));
+    cases.extend((0..8).map(|_| any_case(noise)));
+    cases
+}
+
+/// The refusals that some line has.
+fn refusals(text: &str) -> BTreeSet<u8> {
+    let numbers = text.lines().filter_map(|line| line.split_once("refused "));
+    numbers.map(|(_, number)| number.parse().expect("a number")).collect()
+}
+
+/// The files of one kind, each once, in the order in which cases first have them.
+struct Kind {
+    letter: char,
+    files: Vec<Vec<u8>>,
+}
+
+impl Kind {
+    /// The number that no file has.
+    const MISSING: u8 = 255;
+
+    fn new(letter: char) -> Self {
+        Self { letter, files: Vec::new() }
+    }
+
+    fn number(&mut self, file: &File) -> u8 {
+        let Some(file) = file else { return Self::MISSING };
+        let known = self.files.iter().position(|other| other == file);
+        let number = known.unwrap_or_else(|| {
+            self.files.push(file.clone());
+            self.files.len() - 1
+        });
+        assert!(number < Self::MISSING.into(), "too many files");
+        number as u8
+    }
+
+    /// Writes the files and gives their size.
+    fn save(self, folder: &Path) -> usize {
+        for (number, file) in self.files.iter().enumerate() {
+            fs::write(folder.join(format!("{}{number:03}", self.letter)), file).expect("a file");
+        }
+        self.files.iter().map(Vec::len).sum()
+    }
+}
+
+/// Writes crates/desk_cases/data and crates/desk_cases/stdout, and gives the size of the data.
+pub fn save(root: &str) -> usize {
+    let (mut dumps, mut maps, mut logs) = (Kind::new('d'), Kind::new('m'), Kind::new('s'));
+    let (mut numbers, mut stdout) = (Vec::new(), String::new());
+    let cases = cases();
+    for (number, case) in cases.iter().enumerate() {
+        numbers.extend([dumps.number(&case.field), dumps.number(&case.reference)]);
+        numbers.extend([maps.number(&case.map), logs.number(&case.samples)]);
+        stdout += &format!("case {number}\n{}", case.output());
+    }
+    // 7 needs a last byte above 7, which is 15; 10 to 14 belong to other calls.
+    assert_eq!(refusals(&stdout), BTreeSet::from([1, 2, 3, 4, 5, 6, 8, 9, 15, 16]));
+    let program = Path::new(root).join("crates").join("desk_cases");
+    let data = program.join("data");
+    let _ = fs::remove_dir_all(&data);
+    fs::create_dir_all(&data).expect("a folder");
+    fs::write(data.join("cases"), &numbers).expect("the cases");
+    fs::write(program.join("stdout"), &stdout).expect("the output");
+    let counts = [&dumps, &maps, &logs].map(|kind| kind.files.len());
+    let size = numbers.len() + [dumps, maps, logs].into_iter().map(|kind| kind.save(&data)).sum::<usize>();
+    println!("desk_cases: {} cases, {counts:?} dumps, maps and logs, {} bytes of output", cases.len(), stdout.len());
+    size
+}
