@@ -179,9 +179,9 @@ fn changed(bytes: &[(usize, usize, u8)]) -> Vec<u8> {
 fn map_cases(noise: &mut Noise, good: &Case) -> Vec<Case> {
     let mut maps = cut(&good.map, &[47, 49, 0, 8, 40, 56, 96]);
     maps.extend([MapChip::S2, MapChip::C6].map(|chip| Some(any_map(noise, chip))));
-    for k in [0, 3, 5] {
+    for (k, zero) in [(0, 5), (3, 6), (5, 7)] {
         let (id, count) = (k as u8 + 1, MapChip::Esp32.rows()[k].1);
-        let id_and_zero = [(0, id + 1), (5 + k % 3, 1)];
+        let id_and_zero = [(0, id + 1), (zero, 1)];
         let block_and_start = [(1, 11), (3, 1), (2, (257 - u16::from(count)) as u8)];
         let counts = [(4, count - 1), (4, count + 1)];
         for (at, byte) in id_and_zero.into_iter().chain(block_and_start).chain(counts) {
