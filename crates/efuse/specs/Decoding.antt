@@ -26,6 +26,6 @@ decodingRefusal words chip dump map unit atten =
     (orElse (unitRefusal unit atten)
     (mapRefusal words chip map))
 
--- the bits of the field with that id, of which a map's field has 15 at most
+-- the bits of the field with that id: all of them, since no field of a map has more than 15
 unfoldable pub valueAt : MapChip → List ℕ → List ℕ → ℕ → ℕ
 valueAt chip dump map id = fieldBits 32 dump (fieldOf map (id - idsOf chip .first))

@@ -94,14 +94,14 @@ module _ (dump : List ℕ) (skip : Bool) where
 
   pub reading-none : readingOf dump skip 0 ≡ pos 0
   unfolding readingOf
-  reading-none = within-none 4
+  reading-none = within-none _
 
   pub reading-step : (tag : ℕ) → (tag ≡ 0 → ⊥) → tag < 33
       → readingOf dump skip tag ≡ step tag (readingOf dump skip (depends (entryAt tag)))
   unfolding readingOf
   reading-step tag some h =
       let r = rule-of tag some h in
-      within-more 3 tag some ∙ ap (step tag) (sym (enough 3 (depends (entryAt tag)) (r .next) (omega (arith, r .falls, r .four))))
+      within-more _ tag some ∙ ap (step tag) (sym (enough _ (depends (entryAt tag)) (r .next) (omega (arith, r .falls, r .four))))
 
   abbrev LiesAt : ℕ → ℕ → Type 0
   LiesAt n tag = Lies (along spanOf n tag) (along upBase n tag) (along dnBase n tag) (within n dump skip tag)
