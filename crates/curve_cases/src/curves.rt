@@ -1,7 +1,9 @@
 // data/tables: every curve over all line answers. data/single: any chip, unit, attenuation and line answer.
 use curve::correct;
 use curve::correct::Corrected;
-use replay::Answer;
+use replay::answer;
+use replay::answer::Answer;
+use replay::bytes;
 use terms::chip::Chip;
 use terms::refusal;
 use terms::unit::Millivolt;
@@ -24,20 +26,20 @@ fn chip_of(number: u8, minor: u8) -> Chip {
 }
 
 // What the library answers to a line answer, by the chip, unit and attenuation at the start of a case.
-fn answer(case: &[u8], line: u16) -> Answer {
-    let chip = chip_of(replay::number8(case, 0), replay::number8(case, 1));
-    let unit = replay::number8(case, 2);
-    let atten = replay::number8(case, 3);
+fn correct_answer(case: &[u8], line: u16) -> Answer {
+    let chip = chip_of(bytes::number8(case, 0), bytes::number8(case, 1));
+    let unit = bytes::number8(case, 2);
+    let atten = bytes::number8(case, 3);
     let corrected = correct::correct(chip, unit, atten, Millivolt(line));
     match corrected {
-        Corrected::Answer(mv) => replay::good(mv.0 as i64),
-        Corrected::Refused(why) => replay::refused(why),
+        Corrected::Answer(mv) => answer::good(mv.0 as i64),
+        Corrected::Refused(why) => answer::refused(why),
     }
 }
 
 // Whether a line answer has that answer.
 fn same_answer(case: &[u8], line: u16, expected: u16) -> bool {
-    replay::same_answer(answer(case, line), refusal::NONE, expected as i64)
+    answer::same(correct_answer(case, line), refusal::NONE, expected as i64)
 }
 
 // An answer and a signed step of one byte. Steps of a table lead from answer to answer, so nothing wraps that shouldn't.
@@ -52,7 +54,7 @@ fn stepped(from: u16, step: u8) -> u16 {
 pub(crate) fn same_table(case: &[u8]) -> bool {
     let mut expected = 0;
     for line in 0..LINE_ANSWERS {
-        expected = stepped(expected, replay::number8(case, 4 + line as usize));
+        expected = stepped(expected, bytes::number8(case, 4 + line as usize));
         if !same_answer(case, line, expected) {
             return false;
         }
@@ -62,9 +64,9 @@ pub(crate) fn same_table(case: &[u8]) -> bool {
 
 // Whether one line answer is corrected as the case says.
 pub(crate) fn same_single(case: &[u8]) -> bool {
-    replay::same_answer(
-        answer(case, replay::number16(case, 4)),
-        replay::number8(case, 8),
-        replay::number16(case, 6) as i64,
+    answer::same(
+        correct_answer(case, bytes::number16(case, 4)),
+        bytes::number8(case, 8),
+        bytes::number16(case, 6) as i64,
     )
 }

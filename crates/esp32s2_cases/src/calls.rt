@@ -10,7 +10,9 @@ use esp32s2::reference::CalMv;
 use esp32s2::tag::RtcCalibParam;
 use esp32s2::version;
 use esp32s2::version::Version;
-use replay::Answer;
+use replay::answer;
+use replay::answer::Answer;
+use replay::bytes;
 
 // The calls, as the list numbers them; the one that is left is `rtc_calib_cal_mv`.
 const VERSION: u8 = 0;
@@ -27,36 +29,36 @@ const CAL_CODE: u8 = 5;
 
 fn version_answer(got: Version) -> Answer {
     match got {
-        Version::Value(version) => replay::good(version as i64),
-        Version::Refused(why) => replay::refused(why),
+        Version::Value(version) => answer::good(version as i64),
+        Version::Refused(why) => answer::refused(why),
     }
 }
 
 fn encryption_answer(got: FlashEncryption) -> Answer {
     match got {
-        FlashEncryption::Value(on) => replay::good(on as i64),
-        FlashEncryption::Refused(why) => replay::refused(why),
+        FlashEncryption::Value(on) => answer::good(on as i64),
+        FlashEncryption::Refused(why) => answer::refused(why),
     }
 }
 
 fn reading_answer(got: Reading) -> Answer {
     match got {
-        Reading::Value(reading) => replay::good_signed(reading),
-        Reading::Refused(why) => replay::refused(why),
+        Reading::Value(reading) => answer::good_signed(reading),
+        Reading::Refused(why) => answer::refused(why),
     }
 }
 
 fn code_answer(got: Code) -> Answer {
     match got {
-        Code::Value(code) => replay::good(code as i64),
-        Code::Refused(why) => replay::refused(why),
+        Code::Value(code) => answer::good(code as i64),
+        Code::Refused(why) => answer::refused(why),
     }
 }
 
 fn mv_answer(got: CalMv) -> Answer {
     match got {
-        CalMv::Value(mv) => replay::good(mv.0 as i64),
-        CalMv::Refused(why) => replay::refused(why),
+        CalMv::Value(mv) => answer::good(mv.0 as i64),
+        CalMv::Refused(why) => answer::refused(why),
     }
 }
 
@@ -69,12 +71,12 @@ fn param_of(number: u8) -> RtcCalibParam {
 }
 
 // What the library answers to a case's call.
-fn answer(dump: &[u32], map: &[u8], case: &[u8]) -> Answer {
-    let version = replay::number8(case, 19);
-    let unit = replay::number8(case, 20);
-    let atten = replay::number8(case, 21);
-    let param = param_of(replay::number8(case, 22));
-    match replay::number8(case, 18) {
+fn call_answer(dump: &[u32], map: &[u8], case: &[u8]) -> Answer {
+    let version = bytes::number8(case, 19);
+    let unit = bytes::number8(case, 20);
+    let atten = bytes::number8(case, 21);
+    let param = param_of(bytes::number8(case, 22));
+    match bytes::number8(case, 18) {
         VERSION => version_answer(version::rtc_calib_version(dump, map)),
         FLASH_ENCRYPTION => encryption_answer(encryption::flash_encryption(dump, map)),
         READING => reading_answer(reading::rtc_calib_reading(dump, version, unit, atten, param)),
@@ -87,11 +89,11 @@ fn answer(dump: &[u32], map: &[u8], case: &[u8]) -> Answer {
 
 // Whether a call is answered as the case says.
 pub(crate) fn same_call(words: &[u32; replay::WORDS], case: &[u8; replay::CASE]) -> bool {
-    let map = replay::part(case, 0, replay::number8(case, 16) as usize);
-    let dump = replay::lent(words, replay::number8(case, 17));
-    replay::same_answer(
-        answer(dump, map, case),
-        replay::number8(case, 23),
-        replay::signed32(case, 24),
+    let map = bytes::part(case, 0, bytes::number8(case, 16) as usize);
+    let dump = replay::lent(words, bytes::number8(case, 17));
+    answer::same(
+        call_answer(dump, map, case),
+        bytes::number8(case, 23),
+        bytes::signed32(case, 24),
     )
 }

@@ -2,6 +2,8 @@
 use crate::convert::record_of;
 use line::fill;
 use line::record::LineRecord;
+use replay::answer;
+use replay::bytes;
 use terms::refusal;
 use terms::refusal::Outcome;
 use terms::unit::Count;
@@ -13,8 +15,8 @@ const BEFORE: u16 = 65535;
 
 // Fills the n counts from a first one on, or those that there is room for, lent as the part of a room that starts at a place.
 fn fill_part(record: LineRecord, first: u16, n: usize, room: &mut [u16], at: u16) -> Outcome {
-    let start = replay::at_most(at as usize, room.len());
-    let end = start + replay::at_most(n, room.len() - start);
+    let start = bytes::at_most(at as usize, room.len());
+    let end = start + bytes::at_most(n, room.len() - start);
     fill::fill(record, Count(first), &mut room[start..end])
 }
 
@@ -30,7 +32,7 @@ fn fill_cut(
     let mut first = 0;
     for _ in 0..stretches {
         let filled = fill_part(record, first, n, table, first);
-        if !replay::same_outcome(filled, refusal::NONE) {
+        if !answer::same_outcome(filled, refusal::NONE) {
             return false;
         }
         first = std::num::wrapping_add_u16(first, stride) % 4096;
@@ -40,7 +42,7 @@ fn fill_cut(
 
 fn same_table(table: &[u16; COUNTS], case: &[u8]) -> bool {
     for k in 0..COUNTS {
-        if table[k] != replay::number16(case, 16 + 2 * k) {
+        if table[k] != bytes::number16(case, 16 + 2 * k) {
             return false;
         }
     }
@@ -87,15 +89,15 @@ fn same_room(room: &[u16], n: usize, number: u8, sum: u32) -> bool {
     if number != refusal::NONE {
         return sum == 0 && untouched(room);
     }
-    let filled = replay::at_most(n, room.len());
+    let filled = bytes::at_most(n, room.len());
     sum_of(&room[0..filled]) == sum && untouched(&room[filled..])
 }
 
 // Whether a stretch is filled as the case says.
 pub(crate) fn same_stretch(case: &[u8]) -> bool {
-    let n = replay::number16(case, 16) as usize;
-    let number = replay::number8(case, 18);
+    let n = bytes::number16(case, 16) as usize;
+    let number = bytes::number8(case, 18);
     let mut room = [BEFORE; 4104];
-    let got = fill_part(record_of(case), replay::number16(case, 14), n, &mut room, 0);
-    replay::same_outcome(got, number) && same_room(&room, n, number, replay::number32(case, 20))
+    let got = fill_part(record_of(case), bytes::number16(case, 14), n, &mut room, 0);
+    answer::same_outcome(got, number) && same_room(&room, n, number, bytes::number32(case, 20))
 }

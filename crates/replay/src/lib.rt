@@ -1,10 +1,10 @@
-// What the programs that replay lists of another implementation's answers have in common: going through a list, the numbers of a
-// case, and the count of the answers that differ.
-use terms::bytes::u16_of;
-use terms::bytes::u32_of;
-use terms::refusal;
-use terms::refusal::Outcome;
-use terms::refusal::Refusal;
+// What the programs that replay lists of another implementation's answers have in common: going through a list from case to case,
+// counting the answers that differ.
+pub mod answer;
+pub mod bytes;
+
+use bytes::at_most;
+use bytes::number32;
 ghost use Prim.Native.Nat.{_-_, _≤_};
 
 const DUMP_WORDS: usize = 88;
@@ -24,7 +24,7 @@ pub struct Layout {
     pub per_dump: u64,
 }
 
-// A list that is gone through. `left` is 0 at its end and falls with every case, so that a loop ends which runs while it isn't 0.
+// A list on its way. `left` is 0 at the list's end and falls with each case: a loop that runs while it isn't 0 ends.
 pub struct Run {
     fd: i32,
     layout: Layout,
@@ -143,103 +143,10 @@ fn left_after(left: u64, whole: bool) -> u64
     if whole { left - 1 } else { 0 }
 }
 
-// What a call answered: document 01's number, and a value, 0 beside a refusal.
-pub struct Answer {
-    number: u8,
-    value: i64,
-}
-
-pub fn good(value: i64) -> Answer {
-    Answer {
-        number: refusal::NONE,
-        value,
-    }
-}
-
-pub fn good_signed(value: i32) -> Answer {
-    good(value as i64)
-}
-
-pub fn refused(why: Refusal) -> Answer {
-    Answer {
-        number: why.number,
-        value: 0,
-    }
-}
-
-// Whether an answer is the list's.
-pub fn same_answer(got: Answer, number: u8, value: i64) -> bool {
-    got.number == number && got.value == value
-}
-
-// Whether an outcome has the list's number.
-pub fn same_outcome(got: Outcome, number: u8) -> bool {
-    match got {
-        Outcome::Good => number == refusal::NONE,
-        Outcome::Refused(why) => why.number == number,
-    }
-}
-
-// The byte at a place; 0 past the end.
-pub fn number8(bytes: &[u8], at: usize) -> u8 {
-    if bytes.len() <= at {
-        return 0;
-    }
-    bytes[at]
-}
-
-// The number of two bytes, low first, at a place; bytes past the end count as 0.
-pub fn number16(bytes: &[u8], at: usize) -> u16 {
-    u16_of(
-        number8(bytes, at),
-        number8(bytes, std::num::wrapping_add_usize(at, 1)),
-    )
-}
-
-// The number of four bytes, low first, at a place; bytes past the end count as 0.
-pub fn number32(bytes: &[u8], at: usize) -> u32 {
-    u32_of(
-        number16(bytes, at),
-        number16(bytes, std::num::wrapping_add_usize(at, 2)),
-    )
-}
-
-// The same four bytes as a signed number.
-pub fn signed32(bytes: &[u8], at: usize) -> i64 {
-    let bits = number32(bytes, at);
-    if bits < 2147483648 {
-        return bits as i64;
-    }
-    bits as i64 - 4294967296
-}
-
-// A length of at most that many.
-pub fn at_most(n: usize, most: usize) -> usize
-    ensures { λ r. ⌜ (r ≤ n) × (r ≤ most) ⌝ }
-{
-    if n <= most { n } else { most }
-}
-
-// The n bytes from a place on, or those of them that there are.
-pub fn part(bytes: &[u8], from: usize, n: usize) -> &[u8] {
-    let start = at_most(from, bytes.len());
-    let len = at_most(n, bytes.len() - start);
-    &bytes[start..start + len]
-}
-
 // The first n words, or those of them that there are.
 pub fn lent(words: &[u32], n: u8) -> &[u32] {
     let most = at_most(n as usize, words.len());
     &words[0..most]
-}
-
-// Puts bytes into a room from a place on, or those of them that it has room for.
-pub fn put(room: &mut [u8], at: usize, bytes: &[u8]) {
-    let start = at_most(at, room.len());
-    let n = at_most(bytes.len(), room.len() - start);
-    for k in 0..n {
-        room[start + k] = bytes[k];
-    }
 }
 
 // Reads a file to the start of a room, and tells how many bytes it has there.

@@ -1,11 +1,11 @@
--- `replay::put` meets its contract: it goes up to n, past which there may be no room, or no byte. Assumes nothing.
+-- `replay::bytes::put` meets its contract: it goes up to n, past which there may be no room, or no byte. Assumes nothing.
 use mathlib.Core.Path.{_≡_}
 use Prim.Native.Nat.{_+_, _-_, _≤_}
 use native.Mathlib.Omega.{arith}
 use lib.ListN.{length, length-set}
 use borrow.Author.Needs.{needs}
-use Rattle.replay.proofs.put.Statement.{statement}
-use Rattle.replay.proofs.put.Tie as tie
+use Rattle.replay.proofs.bytes.put.Statement.{statement}
+use Rattle.replay.proofs.bytes.put.Tie as tie
 
 abbrev Inv-loop : tie.InvT-loop
 Inv-loop room₀ at bytes start n k₀ room k = (length room ≡ length room₀) × (start + n ≤ length room₀) × (n ≤ length bytes) × (k ≤ n)

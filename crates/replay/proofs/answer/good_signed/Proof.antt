@@ -1,11 +1,11 @@
--- `replay::good_signed` meets its contract: what 32 bits hold, 64 hold. Assumes nothing.
+-- `replay::answer::good_signed` meets its contract: what 32 bits hold, 64 hold. Assumes nothing.
 use native.Mathlib.Omega.{arith}
 use lib.IntN.{ℤ, pos, negsuc}
 use mir.Syntax.{w32, w64}
 use mir.Val.{SFits, toZ, ofZ}
 use borrow.Author.Needs.{needs}
-use Rattle.replay.proofs.good_signed.Statement.{statement}
-use Rattle.replay.proofs.good_signed.Tie as tie
+use Rattle.replay.proofs.answer.good_signed.Statement.{statement}
+use Rattle.replay.proofs.answer.good_signed.Tie as tie
 
 wider : (z : ℤ) → SFits w32 z → SFits w64 z
 wider (pos n) h = record { sfits = omega (arith, h .sfits) }

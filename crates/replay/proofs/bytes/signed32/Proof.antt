@@ -1,4 +1,4 @@
--- `replay::signed32` meets its contract: 2^32 taken from a number below it leaves no more than 64 bits hold. Assumes nothing.
+-- `replay::bytes::signed32` meets its contract: 2^32 taken from a number below it leaves no more than 64 bits hold. Assumes nothing.
 use mathlib.Core.Path.{_≡_}
 use Prim.Native.Nat.{ℕ, _+_, _<_}
 use native.Mathlib.Omega.{arith}
@@ -8,8 +8,8 @@ use mir.Val.{SFits, toZ}
 use mir.ValLaws.{toZ-pos}
 use borrow.Author.Needs.{needs}
 use Rattle.terms.proofs.Whole.{up, dn, sum-is, up-le, dn-le, fits-by}
-use Rattle.replay.proofs.signed32.Statement.{statement}
-use Rattle.replay.proofs.signed32.Tie as tie
+use Rattle.replay.proofs.bytes.signed32.Statement.{statement}
+use Rattle.replay.proofs.bytes.signed32.Tie as tie
 
 less-fits : (n : ℕ) → n < 4294967296 → SFits w64 (toZ w64 n -ℤ pos 4294967296)
 less-fits n h =
