@@ -2,16 +2,15 @@
 -- records first to last with 3, 4, 5, 6 within each, then .. 9". A dump is the list of its words, a map that of its bytes.
 -- In the crate: `new_cal` and `check_efuse_tp` of calibration/line/esp32.rs, which cites ESP-IDF's
 -- components/esp_adc/esp32/adc_cali_line_fitting.c, line 155.
-use mathlib.Core.Path.{_≡_}
-use mathlib.Core.Bool.{Bool, false, not, cond, _&&_, _||_}
+use mathlib.Core.Bool.{Bool, false, not, cond, _&&_}
 use mathlib.Core.List.{List}
 use Prim.Native.Nat.{ℕ, _-_}
-use lib.ListN.{length}
-use lib.Dec.{ltb, eqb}
+use lib.Dec.{eqb}
 use Rattle.terms.specs.declared.chip.MapChip.the-variants.{Esp32}
-use Rattle.terms.specs.Refuse.{refuse, orElse, answered}
+use Rattle.terms.specs.Refuse.{orElse, answered}
 use Rattle.efuse.specs.Field.{fieldBits}
-use Rattle.efuse.specs.Map.{fieldOf, mapRefusal}
+use Rattle.efuse.specs.Map.{fieldOf}
+use Rattle.efuse.specs.Decoding.{decodingRefusal}
 use Rattle.line.specs.declared.record.LineRecord.{LineRecord}
 use Rattle.line.specs.declared.characterize.Source.{Source}
 use Rattle.line.specs.declared.characterize.Source.the-variants.{TwoPoint, Vref}
@@ -61,19 +60,11 @@ recordFrom found unit atten = recordOf (found .line .a) (found .line .b) (vrefOf
 unfoldable pub decodedRecord : List ℕ → List ℕ → ℕ → ℕ → LineRecord
 decodedRecord dump map unit atten = recordFrom (foundOf dump map unit atten) unit atten
 
--- 1: the dump hasn't 88 words
--- 7: unit above 1 or attenuation above 3
--- then 2, and 3, 4, 5, 6 for each record of the map
-unfoldable pub inputRefusal : (ℕ → ℕ) → List ℕ → List ℕ → ℕ → ℕ → ℕ
-inputRefusal words dump map unit atten =
-    refuse (not (eqb (length dump) 88)) 1
-    (refuse (ltb 1 unit || ltb 3 atten) 7
-    (mapRefusal words Esp32 map))
-
--- then 9
+-- 1, 7 and those of the map, then 9
 unfoldable pub decodeRefusal : (ℕ → ℕ) → List ℕ → List ℕ → ℕ → ℕ → ℕ
 decodeRefusal words dump map unit atten =
-    orElse (inputRefusal words dump map unit atten) (sourceRefusal unit (sourceOf dump map unit))
+    orElse (decodingRefusal words Esp32 dump map unit atten)
+    (sourceRefusal unit (sourceOf dump map unit))
 
 -- document 01's number and record of a decoding, zeros beside a refusal
 abbrev pub numberOf : Decoded → ℕ
@@ -91,8 +82,3 @@ valueOf (Refused r) = noRecord
 unfoldable pub decodeOf : (ℕ → ℕ) → List ℕ → List ℕ → ℕ → ℕ → Decoded
 decodeOf words dump map unit atten =
     answered (decodeRefusal words dump map unit atten) (Record (decodedRecord dump map unit atten)) Refused
-
--- What private functions ask of a dump and a map: nothing in them is refused, so that each field of the map may be read
-pub record Mapped (words : ℕ → ℕ) (dump map : List ℕ) : Type 0 where
-  pub whole : length dump ≡ 88
-  pub passed : mapRefusal words Esp32 map ≡ 0

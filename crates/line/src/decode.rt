@@ -5,24 +5,19 @@ use crate::characterize::Source;
 use crate::code;
 use crate::record;
 use crate::record::LineRecord;
+use efuse::decoding::decoding_refusal;
 use efuse::field;
 use efuse::field::Read;
 use efuse::map;
 use terms::chip::MapChip;
 use terms::refusal;
-use terms::refusal::Outcome;
 use terms::refusal::Refusal;
 ghost use mathlib.Core.Path.{_≡_};
 ghost use Prim.Native.Nat.{_≤_, _<_};
+ghost use Rattle.terms.specs.declared.chip.MapChip.the-variants.{Esp32};
 ghost use Rattle.efuse.specs.Field.{eight};
-ghost use Rattle.line.specs.Decode.{rawOf, sourceOf, foundOf, recordFrom};
-ghost use Rattle.line.specs.Decode.{inputRefusal, decodeRefusal, numberOf, decodeOf, Mapped};
-
-const DUMP_WORDS: usize = 88;
-
-const LAST_UNIT: u8 = 1;
-
-const LAST_ATTEN: u8 = 3;
+ghost use Rattle.efuse.specs.Decoding.{fieldsRefusal};
+ghost use Rattle.line.specs.Decode.{rawOf, sourceOf, foundOf, recordFrom, decodeRefusal, numberOf, decodeOf};
 
 // The ids of an ESP32 map.
 const ADC_VREF: u32 = 1;
@@ -50,29 +45,9 @@ pub(crate) struct Found {
     pub(crate) line: Coefficients,
 }
 
-// The first thing wrong with what is handed in: 1, 7, then the map's.
-fn input_refusal(dump: &[u32], map: &[u8], unit: u8, atten: u8) -> u8
-    ensures { λ r. ⌜ r ≡ inputRefusal eight (now (dump .entry)) (now (map .entry)) unit atten ⌝ }
-{
-    if dump.len() != DUMP_WORDS {
-        return refusal::DUMP;
-    }
-    if LAST_UNIT < unit {
-        return refusal::UNIT;
-    }
-    if LAST_ATTEN < atten {
-        return refusal::UNIT;
-    }
-    let checked = map::check_map(MapChip::Esp32, map);
-    let Outcome::Refused(wrong) = checked else {
-        return refusal::NONE;
-    };
-    wrong.number
-}
-
 // The raw bits of the field with that id. It is never refused: its map has passed.
 fn raw(dump: &[u32], map: &[u8], id: u32) -> u32
-    requires { ⌜ Mapped eight (now dump) (now map) × (1 ≤ id) × (id ≤ 6) ⌝ }
+    requires { ⌜ (fieldsRefusal eight Esp32 (now dump) (now map) ≡ 0) × (1 ≤ id) × (id ≤ 6) ⌝ }
     ensures { λ r. ⌜ r ≡ rawOf (now (dump .entry)) (now (map .entry)) id ⌝ }
 {
     let read = field::read_field_u32(dump, map::field_at(map, (id - 1) as usize));
@@ -84,7 +59,7 @@ fn raw(dump: &[u32], map: &[u8], id: u32) -> u32
 
 // Where a unit's a and b come from. In the crate: `check_efuse_tp`.
 fn source(dump: &[u32], map: &[u8], unit: u8) -> Source
-    requires { ⌜ Mapped eight (now dump) (now map) ⌝ }
+    requires { ⌜ fieldsRefusal eight Esp32 (now dump) (now map) ≡ 0 ⌝ }
     ensures { λ r. ⌜ r ≡ sourceOf (now (dump .entry)) (now (map .entry)) unit ⌝ }
 {
     if raw(dump, map, BLK3_PART_RESERVE) != 1 {
@@ -136,7 +111,7 @@ fn record_from(found: Found, unit: u8, atten: u8) -> LineRecord
 pub fn decode(dump: &[u32], map: &[u8], unit: u8, atten: u8) -> Decoded
     ensures { λ r. ⌜ r ≡ decodeOf eight (now (dump .entry)) (now (map .entry)) unit atten ⌝ }
 {
-    let number = input_refusal(dump, map, unit, atten);
+    let number = decoding_refusal(MapChip::Esp32, dump, map, unit, atten);
     if number != refusal::NONE {
         return Decoded::Refused(Refusal { number });
     }

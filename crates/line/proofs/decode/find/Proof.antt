@@ -9,19 +9,19 @@ use Rattle.line.proofs.decode.find.Statement.{statement}
 use Rattle.line.proofs.decode.find.Tie as tie
 
 raw-requires : tie.Need-raw-requires
-raw-requires c κs = (decode-good _ _ _ _ _ (c .before .before .pre .0) .0 .mapped, lit≤ tt, lit≤ tt)
+raw-requires c κs = (decode-good _ _ _ _ _ (c .before .before .pre .0) .0, lit≤ tt, lit≤ tt)
 
 efuse-vref-requires : tie.Need-efuse-vref-requires
 efuse-vref-requires c κs =
-    rw (c .raw .ensures) (vref-fits _ _ (decode-good _ _ _ _ _ (c .before .before .before .pre .0) .0 .mapped))
+    rw (c .raw .ensures) (vref-fits _ _ _ (decode-good _ _ _ _ _ (c .before .before .before .pre .0) .0))
 
 characterize-requires : tie.Need-characterize-requires
 characterize-requires c κs =
     let k = c .before .before .before .before .pre in
     let good = decode-good _ _ _ _ _ (k .0) in
-    let m = good .0 .mapped in
+    let m = good .0 in
     rw (c .efuse-vref .ensures, c .before .raw .ensures, k .1)
-    (good .0 .units, good .0 .attens, vref-range (vref-fits _ _ m) .1, source-in-bits _ _ _ m, good .1)
+    (good .1 .0, good .1 .1, vref-range (vref-fits _ _ _ m) .1, source-in-bits _ _ _ m _, good .2)
 
 returns : tie.Need-returns
 unfolding foundOf

@@ -3,6 +3,7 @@ use mathlib.Core.Path.{_∙_, ap}
 use native.Mathlib.Omega.{arith}
 use borrow.Author.Needs.{needs}
 use Rattle.efuse.specs.Field.{eight, readOf}
+use Rattle.efuse.proofs.Decodings.{fields-good}
 use Rattle.efuse.proofs.Mapped.{mapped-value, mapped-never}
 use Rattle.line.proofs.decode.raw.Statement.{statement}
 use Rattle.line.proofs.decode.raw.Tie as tie
@@ -28,17 +29,17 @@ enum-told c = search needs
 returns : tie.Need-returns
 returns c =
     let p = c .before .before in
-    let k = p .before .before .before .before .pre .0 in
+    let k = fields-good _ _ _ _ (p .before .before .before .before .pre .0) in
     absurd
-    (mapped-never _ _ _ (k .passed) _ (omega arith) _ _ (k .whole)
+    (mapped-never _ _ _ (k .1) _ (omega arith) _ _ (k .0)
     (p .read-field-u32 .ensures ∙ ap (readOf 32 eight _) (p .before .field-at .ensures))
     (c .enum-told .given .1))
 
 returns-2 : tie.Need-returns-2
 returns-2 c =
     let p = c .before .before .before in
-    let k = p .before .before .before .before .pre .0 in
-    mapped-value _ _ _ (k .passed) _ (omega arith) _ _ (k .whole)
+    let k = fields-good _ _ _ _ (p .before .before .before .before .pre .0) in
+    mapped-value _ _ _ (k .1) _ (omega arith) _ _ (k .0)
     (p .read-field-u32 .ensures ∙ ap (readOf 32 eight _) (p .before .field-at .ensures))
     (c .before .read .given .1)
 
