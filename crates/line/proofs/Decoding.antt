@@ -6,7 +6,7 @@ use Prim.Native.Nat.{ℕ, zero, suc, _≤_}
 use Rattle.terms.specs.declared.chip.MapChip.the-variants.{Esp32}
 use Rattle.terms.specs.Refuse.{byNumber, answered}
 use Rattle.terms.proofs.Refusals.{orElse-none, orElse-some, byNumber-good, byNumber-refused}
-use Rattle.efuse.specs.Decoding.{fieldsRefusal, decodingRefusal}
+use Rattle.efuse.specs.Decoding.{fieldsRefusal, decodingRefusal, valueAt}
 use Rattle.efuse.proofs.Decodings.{decoding-good}
 use Rattle.line.specs.declared.record.LineRecord.{LineRecord}
 use Rattle.line.specs.declared.characterize.Source.{Source}
@@ -14,7 +14,7 @@ use Rattle.line.specs.declared.decode.Decoded.the-variants.{Record, Refu
 use Rattle.line.specs.Record.{recordRefusal}
 use Rattle.line.specs.Code.{vrefOf}
 use Rattle.line.specs.Characterize.{sourceRefusal}
-use Rattle.line.specs.Decode.{rawOf, sourceOf, foundOf, decodedRecord, decodeRefusal, numberOf, valueOf, noRecord, decodeOf}
+use Rattle.line.specs.Decode.{sourceOf, foundOf, decodedRecord, decodeRefusal, numberOf, valueOf, noRecord, decodeOf}
 use Rattle.line.proofs.Records.{record-good}
 use Rattle.line.proofs.Codes.{vref-range}
 use Rattle.line.proofs.Coefficients.{line-ranges}
@@ -72,5 +72,5 @@ module _ (words : ℕ → ℕ) (dump map : List ℕ) (unit atten : ℕ) where
       let good = decode-good e in
       let u = good .1 .0 in
       let vref = vref-range (vref-fits words dump map (good .0)) in
-      let line = line-ranges unit atten (vrefOf (rawOf dump map 1)) (sourceOf dump map unit) u (good .1 .1) (vref .1) in
+      let line = line-ranges unit atten (vrefOf (valueAt Esp32 dump map 1)) (sourceOf dump map unit) u (good .1 .1) (vref .1) in
       record-good _ (record { a = line .0; b = line .1; vref-least = vref .0; vref-most = vref .1; unit = u })
