@@ -2,9 +2,9 @@
 -- decoded record passes the record check. Assumes nothing.
 use mathlib.Core.Path.{_≡_, refl, sym, _∙_, ap}
 use mathlib.Core.List.{List}
-use Prim.Native.Nat.{ℕ, zero, suc, _≤_}
+use Prim.Native.Nat.{ℕ, _≤_}
 use Rattle.terms.specs.declared.chip.MapChip.the-variants.{Esp32}
-use Rattle.terms.specs.Refuse.{byNumber, answered}
+use Rattle.terms.proofs.Answers.{Paper}
 use Rattle.terms.proofs.Refusals.{orElse-none, orElse-some, byNumber-good, byNumber-refused}
 use Rattle.efuse.specs.Decoding.{fieldsRefusal, decodingRefusal, valueAt}
 use Rattle.efuse.proofs.Decodings.{decoding-good}
@@ -20,14 +20,10 @@ use Rattle.line.proofs.Codes.{vref-range}
 use Rattle.line.proofs.Coefficients.{line-ranges}
 use Rattle.line.proofs.Sources.{vref-fits}
 
--- a decoding has the number and the record that it was given, zeros beside a refusal
-pub decoded-number : (n : ℕ) (r : LineRecord) → numberOf (answered n (Record r) Refused) ≡ n
-decoded-number zero r = refl
-decoded-number (suc n) r = refl
-
-pub decoded-values : (n : ℕ) (r : LineRecord) → valueOf (answered n (Record r) Refused) ≡ byNumber n r noRecord
-decoded-values zero r = refl
-decoded-values (suc n) r = refl
+-- the number and the record of a decoding are document 01's
+pub decoded-paper : Paper numberOf valueOf noRecord Record Refused
+decoded-paper =
+    record { good-number = λ v. refl; good-value = λ v. refl; refused-number = λ r. refl; refused-value = λ r. refl }
 
 module _ (words : ℕ → ℕ) (dump map : List ℕ) (unit atten : ℕ) where
   abbrev input : ℕ
