@@ -3,7 +3,6 @@ mod fields;
 mod maps;
 
 use replay::Layout;
-use replay::Tally;
 
 enum List {
     Fields,
@@ -22,46 +21,42 @@ fn layout_of(list: List) -> Layout {
             per_dump: 64,
         },
         List::Maps => Layout {
-            case: 128,
+            case: 8,
             per_dump: 0,
         },
     }
 }
 
 // Whether the library answers a case as the list says.
-fn same(list: List, words: &[u32], case: &[u8]) -> bool {
+fn same(
+    list: List,
+    words: &[u32; replay::WORDS],
+    case: &[u8; replay::CASE],
+    good_maps: &[u8],
+) -> bool {
     match list {
         List::Fields => fields::same_field(words, case),
         List::Bytes => fields::same_bytes(words, case),
-        List::Maps => maps::same_map(case),
+        List::Maps => maps::same_map(good_maps, case),
     }
 }
 
-// Compares a list to its end, with room for a dump and a case.
-fn compare(list: List, name: &[u8], fd: i32, words: &mut [u32], case: &mut [u8]) -> Tally {
-    let layout = layout_of(list);
-    let mut tally = replay::none();
-    let mut left = u64::MAX;
-    while 0 < left {
-        if !replay::next(fd, layout, tally.compared, words, case) {
-            return tally;
-        }
-        tally = replay::count(name, tally, same(list, words, case));
-        left -= 1;
+// Compares a list to its end.
+fn replay_list(list: List, name: &[u8], good_maps: &[u8]) {
+    let mut words = [0u32; replay::WORDS];
+    let mut case = [0u8; replay::CASE];
+    let mut run = replay::open(name, layout_of(list), &mut words, &mut case);
+    while 0 < run.left {
+        let same = same(list, &words, &case, good_maps);
+        run = replay::step(name, run, same, &mut words, &mut case);
     }
-    tally
-}
-
-fn replay_list(list: List, name: &[u8]) {
-    let mut words = [0u32; 96];
-    let mut case = [0u8; 128];
-    let fd = os::open_read(name);
-    replay::report(name, compare(list, name, fd, &mut words, &mut case));
-    libc::close(fd);
+    replay::close(name, run);
 }
 
 fn main() {
-    replay_list(List::Fields, b"fields");
-    replay_list(List::Bytes, b"bytes");
-    replay_list(List::Maps, b"maps");
+    let mut good_maps = [0u8; 1536];
+    replay::read(b"good_maps", &mut good_maps);
+    replay_list(List::Fields, b"fields", &good_maps);
+    replay_list(List::Bytes, b"bytes", &good_maps);
+    replay_list(List::Maps, b"maps", &good_maps);
 }

@@ -1,10 +1,19 @@
-// What the programs that replay lists of another implementation's answers have in common: the numbers of a record, its dump, and
-// the count of the answers that differ.
-use terms::refusal;
-use terms::refusal::Outcome;
-ghost use Prim.Native.Nat.{_≤_};
+// What the programs that replay lists of another implementation's answers have in common: going through a list from case to case,
+// counting the answers that differ.
+pub mod answer;
+pub mod bytes;
+
+use bytes::at_most;
+use bytes::number32;
+ghost use Prim.Native.Nat.{_-_, _≤_};
 
 const DUMP_WORDS: usize = 88;
+
+// The most words that a case lends: a dump's, and zeros behind them.
+pub const WORDS: usize = 96;
+
+// The most bytes of a case: those of a whole table.
+pub const CASE: usize = 8208;
 
 // A difference is named where it is one of the first few.
 const MOST_NAMED: u64 = 5;
@@ -15,92 +24,93 @@ pub struct Layout {
     pub per_dump: u64,
 }
 
-// How many answers were compared, and how many of them differed.
-pub struct Tally {
-    pub compared: u64,
-    pub differ: u64,
+// A list on its way. `left` is 0 at the list's end and falls with each case: a loop that runs while it isn't 0 ends.
+pub struct Run {
+    fd: i32,
+    layout: Layout,
+    compared: u64,
+    differ: u64,
+    pub left: u64,
 }
 
-// Nothing compared yet.
-pub fn none() -> Tally {
-    Tally {
+// Opens a list, and reads its first case to the start of the room for one. Words past a dump's 88 stay as they are.
+pub fn open(name: &[u8], layout: Layout, words: &mut [u32; WORDS], case: &mut [u8; CASE]) -> Run {
+    let run = Run {
+        fd: os::open_read(name),
+        layout,
         compared: 0,
         differ: 0,
-    }
+        left: u64::MAX,
+    };
+    next(run, words, case)
 }
 
-// One answer more. The first few that differ are named by the list's name and their number, from 0.
-pub fn count(list: &[u8], tally: Tally, same: bool) -> Tally {
-    let compared = std::num::wrapping_add_u64(tally.compared, 1);
+// Counts the case, by whether it is answered alike, and reads the next one.
+pub fn step(
+    name: &[u8],
+    run: Run,
+    same: bool,
+    words: &mut [u32; WORDS],
+    case: &mut [u8; CASE],
+) -> Run
+    ensures { λ r. ⌜ r .left ≤ run .left - 1 ⌝ }
+{
+    next(count(name, run, same), words, case)
+}
+
+// Writes the list's closing line.
+pub fn close(name: &[u8], run: Run) {
+    io::write_all(1, name);
+    io::write_all(1, b": ");
+    io::print_decimal(1, run.compared);
+    io::write_all(1, b" compared, ");
+    io::print_decimal(1, run.differ);
+    io::write_all(1, b" differ\n");
+    libc::close(run.fd);
+}
+
+fn count(name: &[u8], mut run: Run, same: bool) -> Run
+    ensures { λ r. ⌜ r .left ≤ run .left ⌝ }
+{
+    let case = run.compared;
+    run.compared = std::num::wrapping_add_u64(case, 1);
     if same {
-        return Tally {
-            compared,
-            differ: tally.differ,
-        };
+        return run;
     }
-    if tally.differ < MOST_NAMED {
-        io::write_all(1, list);
+    name_difference(name, case, run.differ);
+    run.differ = std::num::wrapping_add_u64(run.differ, 1);
+    run
+}
+
+// Names a difference by its case's number, from 0.
+fn name_difference(name: &[u8], case: u64, before: u64) {
+    if before < MOST_NAMED {
+        io::write_all(1, name);
         io::write_all(1, b": case ");
-        io::print_decimal(1, tally.compared);
+        io::print_decimal(1, case);
         io::write_all(1, b" differs\n");
     }
-    Tally {
-        compared,
-        differ: std::num::wrapping_add_u64(tally.differ, 1),
-    }
 }
 
-// The closing line of a list.
-pub fn report(list: &[u8], tally: Tally) {
-    io::write_all(1, list);
-    io::write_all(1, b": ");
-    io::print_decimal(1, tally.compared);
-    io::write_all(1, b" compared, ");
-    io::print_decimal(1, tally.differ);
-    io::write_all(1, b" differ\n");
-}
-
-// Whether an outcome has that number.
-pub fn same_outcome(got: Outcome, number: u8) -> bool {
-    match got {
-        Outcome::Good => number == refusal::NONE,
-        Outcome::Refused(refused) => refused.number == number,
-    }
-}
-
-// The byte at a place; 0 past the end.
-pub fn number8(bytes: &[u8], at: usize) -> u8 {
-    if bytes.len() <= at {
-        return 0;
-    }
-    bytes[at]
-}
-
-fn wide(byte: u8) -> u32
-    ensures { λ r. ⌜ r ≤ 255 ⌝ }
+// Reads the next case, and before it a dump where one is due.
+fn next(mut run: Run, words: &mut [u32; WORDS], case: &mut [u8; CASE]) -> Run
+    ensures { λ r. ⌜ r .left ≤ run .left - 1 ⌝ }
 {
-    byte as u32
+    let layout = run.layout;
+    if dump_due(layout.per_dump, run.compared) {
+        read_dump(run.fd, words);
+    }
+    let whole = read_case(run.fd, layout.case, case);
+    run.left = left_after(run.left, whole);
+    run
 }
 
-// The number of two bytes, low first, at a place; bytes past the end count as 0.
-pub fn number16(bytes: &[u8], at: usize) -> u16 {
-    let low = wide(number8(bytes, at));
-    let high = wide(number8(bytes, std::num::wrapping_add_usize(at, 1)));
-    (low + 256 * high) as u16
-}
-
-// The number of four bytes, low first, at a place; bytes past the end count as 0.
-pub fn number32(bytes: &[u8], at: usize) -> u32 {
-    let low = number16(bytes, at) as u32;
-    let high = number16(bytes, std::num::wrapping_add_usize(at, 2)) as u32;
-    low + 65536 * high
-}
-
-// A length of at most that many.
-pub fn at_most(n: usize, most: usize) -> usize
-    ensures { λ r. ⌜ (r ≤ n) × (r ≤ most) ⌝ }
-{
-    if n <= most { n } else { most }
+// Whether a dump stands before the next case.
+fn dump_due(per_dump: u64, compared: u64) -> bool {
+    if per_dump == 0 {
+        return false;
+    }
+    compared % per_dump == 0
 }
 
 // Reads a dump, each word low byte first. Bytes that the list hasn't count as 0.
@@ -112,40 +122,40 @@ fn read_dump(fd: i32, words: &mut [u32]) {
 
 fn put_words(bytes: &[u8], words: &mut [u32]) {
     let n = at_most(DUMP_WORDS, words.len());
-    let mut k = 0;
-    while k < n {
+    for k in 0..n {
         words[k] = number32(bytes, 4 * k);
-        k += 1;
     }
 }
 
-// Whether a dump stands before the next case.
-fn dump_due(per_dump: u64, compared: u64) -> bool {
-    if per_dump == 0 {
-        return false;
-    }
-    compared % per_dump == 0
+// Whether there was a whole case.
+fn read_case(fd: i32, size: usize, case: &mut [u8]) -> bool {
+    let n = at_most(size, case.len());
+    io::read_full(fd, &mut case[0..n]) == size
 }
 
-// Reads the next case to the start of the lent bytes, and before it a dump where one is due. False at the list's end. Words past
-// the dump's 88 stay as they are.
-pub fn next(fd: i32, layout: Layout, compared: u64, words: &mut [u32], case: &mut [u8]) -> bool {
-    if dump_due(layout.per_dump, compared) {
-        read_dump(fd, words);
+// A list ends with its last whole case.
+fn left_after(left: u64, whole: bool) -> u64
+    ensures { λ r. ⌜ r ≤ left - 1 ⌝ }
+{
+    if left == 0 {
+        return 0;
     }
-    let n = at_most(layout.case, case.len());
-    io::read_full(fd, &mut case[0..n]) == layout.case
-}
-
-// The n bytes from a place on, or those of them that there are.
-pub fn part(bytes: &[u8], from: usize, n: usize) -> &[u8] {
-    let start = at_most(from, bytes.len());
-    let len = at_most(n, bytes.len() - start);
-    &bytes[start..start + len]
+    if whole { left - 1 } else { 0 }
 }
 
 // The first n words, or those of them that there are.
 pub fn lent(words: &[u32], n: u8) -> &[u32] {
     let most = at_most(n as usize, words.len());
     &words[0..most]
+}
+
+// Reads a file to the start of a room, and tells how many bytes it has there.
+pub fn read(name: &[u8], room: &mut [u8]) {
+    let fd = os::open_read(name);
+    let n = io::read_full(fd, room);
+    libc::close(fd);
+    io::write_all(1, name);
+    io::write_all(1, b": ");
+    io::print_decimal(1, n as u64);
+    io::write_all(1, b" bytes\n");
 }

@@ -28,13 +28,32 @@ fn any_class(noise: &mut Noise) -> (u16, u16) {
     (start, count)
 }
 
-/// Each class on noise, and any on zeros, ones and noise: a dump and 256 cases at 8, 16 and 32 bits.
+/// A field of that class, or of any, mostly of a good block; and a number of words, mostly good.
+fn any_field(noise: &mut Noise, class: Option<(u16, u16)>) -> (Field, u8) {
+    let (bit_start, bit_count) = class.unwrap_or_else(|| any_class(noise));
+    (Field { block: any_block(noise), bit_start, bit_count }, any_words(noise))
+}
+
+/// Fields that end at a word's edge and a bit beside it, empty ones, and the S2's tag 24: of good blocks.
+fn edges() -> Vec<Field> {
+    let ends = (1..9).flat_map(|words| [32 * words - 1, 32 * words, 32 * words + 1]);
+    let counts = [1, 7, 8, 9, 16, 31, 32, 33];
+    let inside = |end: u16, count: u16| Some((end.checked_sub(count)?, count));
+    let mut classes: Vec<_> = ends.flat_map(|end| counts.into_iter().filter_map(move |count| inside(end, count))).collect();
+    classes.extend([(0, 0), (255, 0), (256, 0)]);
+    let block = |(i, (bit_start, bit_count))| Field { block: (i % 11) as u8, bit_start, bit_count };
+    let tag24 = Field { block: 2, bit_start: 249, bit_count: 7 };
+    classes.into_iter().enumerate().map(block).chain([tag24]).collect()
+}
+
+/// Each class on noise, any on zeros, ones and noise, and last the edges: a dump and 256 cases at 8, 16 and 32 bits.
 pub fn fields() -> List {
     const CASES: usize = 256;
     let mut list = List::new("efuse_cases", "fields", 352 + 16 * CASES);
     let noise = &mut Noise::new(1);
     let mut classes = classes().into_iter();
-    for group in 0..10 {
+    let mut edges = edges().into_iter();
+    for group in 0..11 {
         let dump = match group {
             0 => ZEROS,
             1 => ONES,
@@ -43,17 +62,16 @@ pub fn fields() -> List {
         list.words(&dump);
         for _ in 0..CASES {
             let next = if group < 2 { None } else { classes.next() };
-            let (bit_start, bit_count) = next.unwrap_or_else(|| any_class(noise));
-            let field = Field { block: any_block(noise), bit_start, bit_count };
-            let n = any_words(noise);
+            let edge = if group < 10 { None } else { edges.next() };
+            let (field, n) = edge.map(|field| (field, 88)).unwrap_or_else(|| any_field(noise, next));
             let words = lent(&dump, n);
             let wide = answers::read_field_u32(&words, field);
-            list.u8(n).u8(field.block).u16(bit_start).u16(bit_count).u8(number(&wide));
+            list.u8(n).u8(field.block).u16(field.bit_start).u16(field.bit_count).u8(number(&wide));
             list.u8(answers::read_field_u8(&words, field).unwrap_or(0));
             list.u16(answers::read_field_u16(&words, field).unwrap_or(0)).u16(0).u32(wide.unwrap_or(0));
         }
     }
-    assert_eq!(classes.next(), None, "every class has its case");
+    assert_eq!((classes.next(), edges.next()), (None, None), "every class and edge has its case");
     list
 }
 

@@ -16,6 +16,7 @@ fn main() {
     for list in [
         fields::fields(),
         fields::bytes(),
+        maps::good_maps(),
         maps::maps(),
         decode::decode(),
         convert::convert(),

@@ -1,4 +1,5 @@
 //! Field maps, good ones and ones with a fault; and the list of them, which document 01's rules alone answer.
+use oracle::fields::Field;
 use oracle::noise::Noise;
 use oracle::plain::record;
 use oracle::rules::{self, MapChip, RECORD};
@@ -6,15 +7,17 @@ use oracle::rules::{self, MapChip, RECORD};
 use crate::dumps::any_place;
 use crate::list::{List, number};
 
+/// A good map with each field placed by its least and largest bit count.
+fn map_of(chip: MapChip, mut place: impl FnMut(u8, u8) -> Field) -> Vec<u8> {
+    chip.rows().into_iter().flat_map(|(id, least, largest)| record(id, place(least, largest))).collect()
+}
+
 /// A good map with its fields anywhere.
 pub fn any_map(noise: &mut Noise, chip: MapChip) -> Vec<u8> {
-    let rows = chip.rows();
-    rows.into_iter()
-        .flat_map(|(id, least, largest)| {
-            let count = noise.within(least.into(), largest.into());
-            record(id, any_place(noise, count))
-        })
-        .collect()
+    map_of(chip, |least, largest| {
+        let count = noise.within(least.into(), largest.into());
+        any_place(noise, count)
+    })
 }
 
 /// A map as lent at another length. A longer one is refused for that, whatever it holds.
@@ -41,23 +44,82 @@ pub fn spoil(noise: &mut Noise, record: &mut [u8]) {
     }
 }
 
-/// Good maps, maps with one and two spoiled records, maps of other lengths.
+/// The chips in the order of their numbers in the lists.
+const CHIPS: [MapChip; 3] = [MapChip::Esp32, MapChip::S2, MapChip::C6];
+
+/// The good maps that the cases start from: fields anywhere, at a block's end, at a block's start, and anywhere again.
+fn good_of(noise: &mut Noise, chip: MapChip) -> [Vec<u8>; 4] {
+    let last = |_, largest: u8| Field { block: 10, bit_start: 256 - u16::from(largest), bit_count: largest.into() };
+    let first = |least: u8, _| Field { block: 0, bit_start: 0, bit_count: least.into() };
+    [any_map(noise, chip), map_of(chip, last), map_of(chip, first), any_map(noise, chip)]
+}
+
+/// The good maps, each with its chip.
+fn good() -> Vec<(MapChip, Vec<u8>)> {
+    let noise = &mut Noise::new(11);
+    CHIPS.into_iter().flat_map(|chip| good_of(noise, chip).map(|map| (chip, map))).collect()
+}
+
+pub fn good_maps() -> List {
+    let mut list = List::new("efuse_cases", "good_maps", 128);
+    for (chip, map) in good() {
+        let number = CHIPS.iter().position(|other| *other == chip).expect("a chip");
+        list.u8(number as u8).zeros(7).put(&of_length(map, 120));
+    }
+    list
+}
+
+/// A byte of a map and its new value.
+type Change = (usize, u8);
+
+/// The bytes in which a map differs from the good one: two at most, else none are given. A byte that stays makes up the number.
+fn changes(good: &[u8], map: &[u8]) -> Option<[Change; 2]> {
+    let changed: Vec<Change> = map.iter().copied().enumerate().filter(|(at, byte)| good[*at] != *byte).collect();
+    match changed[..] {
+        [] => Some([(0, good[0]); 2]),
+        [one] => Some([one; 2]),
+        [one, other] => Some([one, other]),
+        _ => None,
+    }
+}
+
+/// Two spoiled records, or one that is spoiled twice.
+fn two_faults(noise: &mut Noise, good: &[u8]) -> [Change; 2] {
+    loop {
+        let mut map = good.to_vec();
+        let records = (map.len() / RECORD) as u32;
+        let one = noise.below(records) as usize;
+        let other = noise.below(records) as usize;
+        for k in [one, noise.pick(&[one, other])] {
+            spoil(noise, &mut map[RECORD * k..][..RECORD]);
+        }
+        if let Some(changes) = changes(good, &map) {
+            return changes;
+        }
+    }
+}
+
+/// Each good map as it is, at every length, with every byte changed, and with two faults at a time.
 pub fn maps() -> List {
-    const ROOM: usize = 124;
-    let mut list = List::new("efuse_cases", "maps", 4 + ROOM);
+    let mut list = List::new("efuse_cases", "maps", 8);
     let noise = &mut Noise::new(3);
-    for (i, chip) in [MapChip::Esp32, MapChip::S2, MapChip::C6].into_iter().enumerate() {
-        for turn in 0..100 {
-            let mut map = any_map(noise, chip);
-            let records = map.len() / RECORD;
-            for _ in 0..turn % 4 {
-                let k = noise.below(records as u32) as usize;
-                spoil(noise, &mut map[RECORD * k..][..RECORD]);
-            }
-            let length = if turn % 10 == 9 { noise.pick(&[0, 1, 15, 16, 47, 48, 49, 119, 120, 124]) } else { map.len() };
-            map.resize(ROOM, 0);
-            let answer = rules::map(chip, &map[..length]);
-            list.u8(i as u8).u8(length as u8).u8(number(&answer)).u8(0).put(&map);
+    for (which, (chip, good)) in good().into_iter().enumerate() {
+        let mut one = |length: usize, changes: [Change; 2]| {
+            let mut map = good.clone();
+            changes.into_iter().for_each(|(at, byte)| map[at] = byte);
+            let answer = rules::map(chip, &of_length(map, length));
+            list.u8(which as u8).u8(length as u8);
+            changes.into_iter().for_each(|(at, byte)| _ = list.u8(at as u8).u8(byte));
+            list.u8(number(&answer)).u8(0);
+        };
+        let same = [(0, good[0]); 2];
+        (0..good.len() + 9).for_each(|length| one(length, same));
+        for (at, byte) in good.iter().copied().enumerate() {
+            let others = [0, 255, byte.wrapping_add(1), byte.wrapping_sub(1)];
+            others.into_iter().filter(|other| *other != byte).for_each(|other| one(good.len(), [(at, other); 2]));
+        }
+        for _ in 0..75 {
+            one(good.len(), two_faults(noise, &good));
         }
     }
     list

@@ -1,0 +1,47 @@
+// Replays the lists of data/ with the library's curve correction; tests/oracle/README.md has their formats.
+mod curves;
+
+use replay::Layout;
+
+enum List {
+    Tables,
+    Single,
+}
+
+fn layout_of(list: List) -> Layout {
+    match list {
+        List::Tables => Layout {
+            case: 4100,
+            per_dump: 0,
+        },
+        List::Single => Layout {
+            case: 12,
+            per_dump: 0,
+        },
+    }
+}
+
+// Whether the library answers a case as the list says.
+fn same(list: List, case: &[u8; replay::CASE]) -> bool {
+    match list {
+        List::Tables => curves::same_table(case),
+        List::Single => curves::same_single(case),
+    }
+}
+
+// Compares a list to its end.
+fn replay_list(list: List, name: &[u8]) {
+    let mut words = [0u32; replay::WORDS];
+    let mut case = [0u8; replay::CASE];
+    let mut run = replay::open(name, layout_of(list), &mut words, &mut case);
+    while 0 < run.left {
+        let same = same(list, &case);
+        run = replay::step(name, run, same, &mut words, &mut case);
+    }
+    replay::close(name, run);
+}
+
+fn main() {
+    replay_list(List::Tables, b"tables");
+    replay_list(List::Single, b"single");
+}

@@ -1,0 +1,99 @@
+// data/calls: calls on dumps with their maps, and their answers.
+use esp32s2::code;
+use esp32s2::code::Code;
+use esp32s2::encryption;
+use esp32s2::encryption::FlashEncryption;
+use esp32s2::reading;
+use esp32s2::reading::Reading;
+use esp32s2::reference;
+use esp32s2::reference::CalMv;
+use esp32s2::tag::RtcCalibParam;
+use esp32s2::version;
+use esp32s2::version::Version;
+use replay::answer;
+use replay::answer::Answer;
+use replay::bytes;
+
+// The calls, as the list numbers them; the one that is left is `rtc_calib_cal_mv`.
+const VERSION: u8 = 0;
+
+const FLASH_ENCRYPTION: u8 = 1;
+
+const READING: u8 = 2;
+
+const SKIPPED: u8 = 3;
+
+const INIT_CODE: u8 = 4;
+
+const CAL_CODE: u8 = 5;
+
+fn version_answer(got: Version) -> Answer {
+    match got {
+        Version::Value(version) => answer::good(version as i64),
+        Version::Refused(why) => answer::refused(why),
+    }
+}
+
+fn encryption_answer(got: FlashEncryption) -> Answer {
+    match got {
+        FlashEncryption::Value(on) => answer::good(on as i64),
+        FlashEncryption::Refused(why) => answer::refused(why),
+    }
+}
+
+fn reading_answer(got: Reading) -> Answer {
+    match got {
+        Reading::Value(reading) => answer::good_signed(reading),
+        Reading::Refused(why) => answer::refused(why),
+    }
+}
+
+fn code_answer(got: Code) -> Answer {
+    match got {
+        Code::Value(code) => answer::good(code as i64),
+        Code::Refused(why) => answer::refused(why),
+    }
+}
+
+fn mv_answer(got: CalMv) -> Answer {
+    match got {
+        CalMv::Value(mv) => answer::good(mv.0 as i64),
+        CalMv::Refused(why) => answer::refused(why),
+    }
+}
+
+fn param_of(number: u8) -> RtcCalibParam {
+    match number {
+        0 => RtcCalibParam::Vlow,
+        1 => RtcCalibParam::Vhigh,
+        _ => RtcCalibParam::Vinit,
+    }
+}
+
+// What the library answers to a case's call.
+fn call_answer(dump: &[u32], map: &[u8], case: &[u8]) -> Answer {
+    let version = bytes::number8(case, 19);
+    let unit = bytes::number8(case, 20);
+    let atten = bytes::number8(case, 21);
+    let param = param_of(bytes::number8(case, 22));
+    match bytes::number8(case, 18) {
+        VERSION => version_answer(version::rtc_calib_version(dump, map)),
+        FLASH_ENCRYPTION => encryption_answer(encryption::flash_encryption(dump, map)),
+        READING => reading_answer(reading::rtc_calib_reading(dump, version, unit, atten, param)),
+        SKIPPED => reading_answer(reading::rtc_calib_reading_skipped(version, unit, atten, param)),
+        INIT_CODE => code_answer(code::rtc_calib_init_code(dump, map, unit, atten)),
+        CAL_CODE => code_answer(code::rtc_calib_cal_code(dump, map, unit, atten)),
+        _ => mv_answer(reference::rtc_calib_cal_mv(unit, atten)),
+    }
+}
+
+// Whether a call is answered as the case says.
+pub(crate) fn same_call(words: &[u32; replay::WORDS], case: &[u8; replay::CASE]) -> bool {
+    let map = bytes::part(case, 0, bytes::number8(case, 16) as usize);
+    let dump = replay::lent(words, bytes::number8(case, 17));
+    answer::same(
+        call_answer(dump, map, case),
+        bytes::number8(case, 23),
+        bytes::signed32(case, 24),
+    )
+}

@@ -1,0 +1,29 @@
+// data/decode: dumps with their maps, and the line records that are decoded of them.
+use line::decode;
+use line::decode::Decoded;
+use line::record::LineRecord;
+use replay::bytes;
+
+// Whether a record is the case's. It is of the unit that was asked for.
+fn same_record(got: LineRecord, case: &[u8]) -> bool {
+    got.unit == bytes::number8(case, 50)
+        && got.use_lut as u8 == bytes::number8(case, 53)
+        && got.vref == bytes::number16(case, 54) as u32
+        && got.coeff_a == bytes::number32(case, 56)
+        && got.coeff_b == bytes::number32(case, 60)
+}
+
+// Whether a record is decoded as the case says, or refused; a refused case has zeros for a record.
+pub(crate) fn same_decode(words: &[u32], case: &[u8]) -> bool {
+    let dump = replay::lent(words, bytes::number8(case, 49));
+    let map = bytes::part(case, 0, bytes::number8(case, 48) as usize);
+    let unit = bytes::number8(case, 50);
+    let atten = bytes::number8(case, 51);
+    let none = [0u8; 11];
+    let decoded = decode::decode(dump, map, unit, atten);
+    let same = match decoded {
+        Decoded::Record(record) => same_record(record, case),
+        Decoded::Refused(_) => check::same(bytes::part(case, 53, 11), &none),
+    };
+    same && decode::number_of(decoded) == bytes::number8(case, 52)
+}

@@ -1,0 +1,63 @@
+// Replays the lists of data/ with the library's line calibration; tests/oracle/README.md has their formats.
+mod convert;
+mod decode;
+mod fill;
+
+use replay::Layout;
+
+enum List {
+    Decode,
+    Convert,
+    Fill,
+    Stretches,
+}
+
+fn layout_of(list: List) -> Layout {
+    match list {
+        List::Decode => Layout {
+            case: 64,
+            per_dump: 32,
+        },
+        List::Convert => Layout {
+            case: 20,
+            per_dump: 0,
+        },
+        List::Fill => Layout {
+            case: 8208,
+            per_dump: 0,
+        },
+        List::Stretches => Layout {
+            case: 24,
+            per_dump: 0,
+        },
+    }
+}
+
+// Whether the library answers a case as the list says.
+fn same(list: List, words: &[u32; replay::WORDS], case: &[u8; replay::CASE]) -> bool {
+    match list {
+        List::Decode => decode::same_decode(words, case),
+        List::Convert => convert::same_convert(case),
+        List::Fill => fill::same_fill(case),
+        List::Stretches => fill::same_stretch(case),
+    }
+}
+
+// Compares a list to its end.
+fn replay_list(list: List, name: &[u8]) {
+    let mut words = [0u32; replay::WORDS];
+    let mut case = [0u8; replay::CASE];
+    let mut run = replay::open(name, layout_of(list), &mut words, &mut case);
+    while 0 < run.left {
+        let same = same(list, &words, &case);
+        run = replay::step(name, run, same, &mut words, &mut case);
+    }
+    replay::close(name, run);
+}
+
+fn main() {
+    replay_list(List::Decode, b"decode");
+    replay_list(List::Convert, b"convert");
+    replay_list(List::Fill, b"fill");
+    replay_list(List::Stretches, b"stretches");
+}

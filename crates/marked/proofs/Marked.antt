@@ -1,0 +1,33 @@
+-- Document 01's marked cases hold: what is asked computes to what it says, all in one. Assumes nothing.
+use mathlib.Core.Path.{_≡_, refl}
+use mathlib.Core.List.{map}
+use Rattle.terms.specs.Refuse.{firstOf, unitRefusal}
+use Rattle.terms.specs.Sign.{signMagnitude}
+use Rattle.efuse.specs.Field.{bitsOf, placeRefusal, fieldBits}
+use Rattle.efuse.specs.Map.{countRefusal, recordRefusal as mapRecordRefusal, mapRefusal}
+use Rattle.line.specs.Code.{vrefOf, twoPointCode, pointOf, lowOf, highOf}
+use Rattle.line.specs.Characterize.{tpScale, tpOffset, vrefScale, vrefOffset, twoPointA, topOf, twoPointB, topRefusal, coefficientsOf, sourceRefusal}
+use Rattle.line.specs.Decode.{twoPointUsed, sourceOf, foundOf, decodedRecord, inputRefusal, decodeRefusal, decodeOf}
+use Rattle.line.specs.Record.{usesLookup, recordRefusal}
+use Rattle.line.specs.Lookup.{lowAt, highAt, lookupNumerator, lookupVoltage}
+use Rattle.line.specs.Convert.{lineVoltage, blendOf, beyondLine, answerAt, convertRefusal, convertOf}
+use Rattle.esp32s2.specs.Table.{calibMap, entryAt}
+use Rattle.esp32s2.specs.Reading.{termOf, within, readingOf}
+use Rattle.esp32c6.specs.Code.{offsetOf, calCode}
+use Rattle.esp32c6.specs.Channel.{compensOf}
+use Rattle.curve.specs.Decimal.{nearest, doublings, scaled, magnitude, coefficient}
+use Rattle.curve.specs.Table.{tableOf}
+use Rattle.curve.specs.Correct.{horner, errorOf, correctedOf, correctRefusal, correctOf}
+use Rattle.marked.specs.Cases.{Case, cases}
+
+pub marked : map (λ (c : Case). c .asked) cases ≡ map (λ (c : Case). c .answer) cases
+unfolding
+    vrefOf twoPointCode pointOf lowOf highOf signMagnitude
+    tpScale tpOffset vrefScale vrefOffset twoPointA topOf twoPointB topRefusal coefficientsOf sourceRefusal
+    usesLookup recordRefusal lowAt highAt lookupNumerator lookupVoltage lineVoltage blendOf beyondLine answerAt convertRefusal convertOf
+    firstOf bitsOf placeRefusal fieldBits countRefusal mapRecordRefusal mapRefusal
+    twoPointUsed sourceOf foundOf decodedRecord inputRefusal decodeRefusal decodeOf
+    calibMap entryAt termOf within readingOf
+    offsetOf calCode compensOf
+    nearest doublings scaled magnitude coefficient tableOf horner errorOf correctedOf correctRefusal correctOf unitRefusal
+marked = refl

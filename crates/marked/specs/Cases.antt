@@ -1,0 +1,103 @@
+-- Document 01, "Marked cases, one list under one statement": what each case asks of the library's definitions, and what it must be.
+use mathlib.Core.Bool.{false}
+use mathlib.Core.List.{List, [], _∷_, _++_, map}
+use Prim.Native.Nat.{ℕ, _+_, _*_, _-_, _^_}
+use lib.IntN.{ℤ, pos, negℤ}
+use lib.ListN.{replicate}
+use Rattle.terms.specs.declared.chip.Chip.{Chip}
+use Rattle.terms.specs.declared.chip.Chip.the-variants.{C3, S3}
+use Rattle.efuse.specs.Field.{eight}
+use Rattle.line.specs.declared.record.LineRecord.{LineRecord}
+use Rattle.line.specs.Code.{vrefOf, twoPointCode, lowOf, highOf}
+use Rattle.line.specs.Characterize.{topOf}
+use Rattle.line.specs.Decode.{decodeOf}
+use Rattle.line.specs.Decode.{numberOf as numberDecoded, valueOf as recordDecoded}
+use Rattle.line.specs.Convert.{convertOf}
+use Rattle.line.specs.Convert.{valueOf as millivoltsOf}
+use Rattle.esp32s2.specs.Reading.{readingOf}
+use Rattle.esp32c6.specs.Code.{calCode}
+use Rattle.esp32c6.specs.Channel.{compensOf}
+use Rattle.curve.specs.Correct.{correctOf}
+use Rattle.curve.specs.Correct.{valueOf as correctedTo}
+
+-- what is asked, and document 01's answer
+pub record Case : Type 0 where
+  pub asked : List ℤ
+  pub answer : List ℤ
+
+-- numbers without a sign
+abbrev whole : List ℕ → List ℤ
+whole = map pos
+
+abbrev minus : ℕ → ℤ
+minus n = negℤ (pos n)
+
+-- a dump of 88 words that are all the same
+abbrev filledWith : ℕ → List ℕ
+filledWith word = replicate 88 word
+
+-- an ESP32 map: Vref's five bits at bit 0 of block 0, the reserve bit at its bit 8; in block 1 the low codes of unit 0 and 1 at bits 0
+-- and 8, the high codes at 16 and 32
+abbrev mapped : List ℕ
+mapped =
+    1 ∷ 0 ∷ 0 ∷ 0 ∷ 5 ∷ 0 ∷ 0 ∷ 0
+    ∷ 2 ∷ 0 ∷ 8 ∷ 0 ∷ 1 ∷ 0 ∷ 0 ∷ 0
+    ∷ 3 ∷ 1 ∷ 0 ∷ 0 ∷ 7 ∷ 0 ∷ 0 ∷ 0
+    ∷ 4 ∷ 1 ∷ 8 ∷ 0 ∷ 7 ∷ 0 ∷ 0 ∷ 0
+    ∷ 5 ∷ 1 ∷ 16 ∷ 0 ∷ 9 ∷ 0 ∷ 0 ∷ 0
+    ∷ 6 ∷ 1 ∷ 32 ∷ 0 ∷ 9 ∷ 0 ∷ 0 ∷ 0
+    ∷ []
+
+-- a dump with the reserve bit set, these low and high codes for unit 0, and codes 1 for unit 1
+abbrev twoPoints : ℕ → ℕ → List ℕ
+twoPoints low high = 256 ∷ replicate 7 0 ++ ((low + 256 + 65536 * high) ∷ 1 ∷ replicate 78 0)
+
+-- the record of unit 0 at 11 dB, and its a and b
+abbrev decoded : List ℕ → LineRecord
+decoded dump = recordDecoded (decodeOf eight dump mapped 0 3)
+
+abbrev a-and-b : List ℕ → List ℕ
+a-and-b dump = decoded dump .«coeff_a» ∷ decoded dump .«coeff_b» ∷ []
+
+-- the millivolts of a count by the record of a zero dump, whose Vref is 1100
+abbrev converted : ℕ → ℕ
+converted raw = millivoltsOf (convertOf (decoded (filledWith 0)) raw)
+
+-- t of unit 0's codes, and the number of the decoding
+abbrev top-and-number : ℕ → ℕ → List ℕ
+top-and-number low high =
+    topOf (lowOf 0 low) (highOf 0 high) ∷ numberDecoded (decodeOf eight (twoPoints low high) mapped 0 3) ∷ []
+
+-- the curve's answer to a line answer of 1 mV, at 11 dB
+abbrev corrected : Chip → ℕ → ℕ
+corrected chip unit = correctedTo (correctOf chip unit 3 (record { 0 = 1 })) .0
+
+abbrev pub cases : List Case
+cases =
+    -- 1. "Vref codes 0x00, 0x10, 0x0F, 0x1F: 1100, 1100, 1205, 995"
+    record { asked = whole (map vrefOf (0 ∷ 16 ∷ 15 ∷ 31 ∷ [])); answer = whole (1100 ∷ 1100 ∷ 1205 ∷ 995 ∷ []) }
+    -- 2. "Seven-bit 0x3F, 0x40, 0x41, 0x7F: 63, 0, −63, −1"
+    ∷ record { asked = map (twoPointCode 7) (63 ∷ 64 ∷ 65 ∷ 127 ∷ []); answer = pos 63 ∷ pos 0 ∷ minus 63 ∷ minus 1 ∷ [] }
+    -- 3. "Vref 1100, unit 0, 11 dB: a 52798, b 142"
+    ∷ record { asked = whole (a-and-b (filledWith 0)); answer = whole (52798 ∷ 142 ∷ []) }
+    -- 4. "That record at 0, 2880, 2912, 2944, 4095: 142, 2462, 2483, 2502, 3134"
+    ∷ record {
+      asked = whole (map converted (0 ∷ 2880 ∷ 2912 ∷ 2944 ∷ 4095 ∷ []));
+      answer = whole (142 ∷ 2462 ∷ 2483 ∷ 2502 ∷ 3134 ∷ []);
+    }
+    -- 5. "Two-point codes all 1, unit 0, 11 dB: a 52567, b 138"
+    ∷ record { asked = whole (a-and-b (twoPoints 1 1)); answer = whole (52567 ∷ 138 ∷ []) }
+    -- 6. "Unit 0, low code 63, high code −67 (0x1BD): t 850, accepted; −68 (0x1BC): t 851, refused"
+    ∷ record { asked = whole (top-and-number 63 445); answer = whole (850 ∷ 0 ∷ []) }
+    ∷ record { asked = whole (top-and-number 63 444); answer = whole (851 ∷ 9 ∷ []) }
+    -- 7. "S2, zero block: tags 17, 28, 32 give 6110, 1685, 1719"
+    ∷ record { asked = map (readingOf (filledWith 0) false) (17 ∷ 28 ∷ 32 ∷ []); answer = whole (6110 ∷ 1685 ∷ 1719 ∷ []) }
+    -- 8. "S2, block all ones: tag 28 gives 1277, tag 24 gives 5077"
+    ∷ record { asked = map (readingOf (filledWith (2 ^ 32 - 1)) false) (28 ∷ 24 ∷ []); answer = whole (1277 ∷ 5077 ∷ []) }
+    -- 9. "C6 v2, 6 dB, 0x200: 2900; v1, 0x3FF: 989"
+    ∷ record { asked = calCode 2 2 512 ∷ calCode 1 0 1023 ∷ []; answer = whole (2900 ∷ 989 ∷ []) }
+    -- 10. "C6 channel code 0xF at 0 dB and 11 dB: −28, −7"
+    ∷ record { asked = compensOf 0 15 ∷ compensOf 3 15 ∷ []; answer = minus 28 ∷ minus 7 ∷ [] }
+    -- 11. "C3 ADC1 11 dB, line answer 1: 2. S3 ADC2 11 dB, 1: 0"
+    ∷ record { asked = whole (corrected C3 0 ∷ corrected S3 1 ∷ []); answer = whole (2 ∷ 0 ∷ []) }
+    ∷ []
