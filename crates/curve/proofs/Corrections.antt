@@ -1,7 +1,7 @@
 -- Laws of the correction's refusals: document 01's column "Given exactly when", in the order 7, 14, 13; which case an answer is; and
 -- what a caller may go by. Assumes nothing.
 use mathlib.Core.Path.{_≡_, refl, sym, _∙_, ap}
-use mathlib.Core.Bool.{Bool, true, false}
+use mathlib.Core.Bool.{true, false}
 use mathlib.Core.List.{List}
 use Prim.Native.Nat.{ℕ, _^_, _≤_, _<_}
 use native.Mathlib.Omega.{arith}
@@ -11,8 +11,8 @@ use Rattle.terms.specs.declared.chip.Chip.{Chip}
 use Rattle.terms.specs.declared.unit.Millivolt.{Millivolt}
 use Rattle.terms.specs.Refuse.{unitRefusal}
 use Rattle.terms.proofs.Answers.{Paper}
-use Rattle.terms.proofs.Order.{either}
-use Rattle.terms.proofs.Refusals.{orElse-some, unit-inside, answered-good, answered-refused}
+use Rattle.terms.proofs.Order.{either, whether}
+use Rattle.terms.proofs.Refusals.{orElse-some, unit-good, unit-outside, unit-inside, answered-good, answered-refused}
 use Rattle.curve.specs.declared.correct.Corrected.the-variants.{Answer, Refused}
 use Rattle.curve.specs.Decimal.{Decimal}
 use Rattle.curve.specs.Table.{tableOf, missing, curveIn}
@@ -23,8 +23,7 @@ use Rattle.curve.proofs.Tables.{numbered-some, numbered-none, table-num
 
 -- "Given exactly when", each where none before it is given; 0 where the call isn't turned down
 pub data When (chip : Chip) (unit atten : ℕ) (line : Millivolt) : ℕ → Type 0 where
-  unit-above : 1 < unit → When chip unit atten line 7
-  atten-above : 3 < atten → When chip unit atten line 7
+  no-unit : (unit ≤ 1 → atten ≤ 3 → ⊥) → When chip unit atten line 7
   no-curve : unit ≤ 1 → atten ≤ 3 → missing (tableOf chip unit) ≡ true → When chip unit atten line 14
   line-above : unit ≤ 1 → atten ≤ 3 → missing (tableOf chip unit) ≡ false → 4095 < line .0 → When chip unit atten line 13
   accepted : unit ≤ 1 → atten ≤ 3 → missing (tableOf chip unit) ≡ false → line .0 ≤ 4095 → When chip unit atten line 0
@@ -32,12 +31,11 @@ pub data When (chip : Chip) (unit atten : ℕ) (line : Millivolt) : ℕ → Type
 module _ (chip : Chip) (unit atten : ℕ) (line : Millivolt) where
   -- both directions of each number
   pub refusal-by : {n : ℕ} → When chip unit atten line n → correctRefusal chip unit atten line ≡ n
-  unfolding correctRefusal unitRefusal
-  refusal-by (unit-above u) = simp (lt-ltb _ _ u)
-  refusal-by (atten-above a) = either unit 1 (λ u. simp (le-ltb _ _ u, lt-ltb _ _ a)) (λ u. simp (lt-ltb _ _ u))
-  refusal-by (no-curve u a t) = simp (le-ltb _ _ u, le-ltb _ _ a, t)
-  refusal-by (line-above u a t l) = simp (le-ltb _ _ u, le-ltb _ _ a, t, lt-ltb _ _ l)
-  refusal-by (accepted u a t l) = simp (le-ltb _ _ u, le-ltb _ _ a, t, le-ltb _ _ l)
+  unfolding correctRefusal
+  refusal-by (no-unit h) = simp (unit-outside unit atten h)
+  refusal-by (no-curve u a t) = simp (unit-good unit atten u a, t)
+  refusal-by (line-above u a t l) = simp (unit-good unit atten u a, t, lt-ltb _ _ l)
+  refusal-by (accepted u a t l) = simp (unit-good unit atten u a, t, le-ltb _ _ l)
 
   given : {n : ℕ} → When chip unit atten line n → When chip unit atten line (correctRefusal chip unit atten line)
   given w = rw (refusal-by w) w
@@ -45,19 +43,19 @@ module _ (chip : Chip) (unit atten : ℕ) (line : Millivolt) where
   pub refusal-when : When chip unit atten line (correctRefusal chip unit atten line)
   refusal-when =
       either unit 1
-      (λ u. either atten 3 (λ a. by-table u a (missing (tableOf chip unit)) refl) (λ a. given (atten-above a)))
-      (λ u. given (unit-above u))
+      (λ u. either atten 3 (by-table u) (λ a. given (no-unit (λ v b. omega arith))))
+      (λ u. given (no-unit (λ v b. omega arith)))
     where
-      by-table : unit ≤ 1 → atten ≤ 3 → (b : Bool) → missing (tableOf chip unit) ≡ b
-          → When chip unit atten line (correctRefusal chip unit atten line)
-      by-table u a true t = given (no-curve u a t)
-      by-table u a false t = either (line .0) 4095 (λ l. given (accepted u a t l)) (λ l. given (line-above u a t l))
+      by-table : unit ≤ 1 → atten ≤ 3 → When chip unit atten line (correctRefusal chip unit atten line)
+      by-table u a =
+          whether (missing (tableOf chip unit))
+          (λ t. given (no-curve u a t))
+          (λ t. either (line .0) 4095 (λ l. given (accepted u a t l)) (λ l. given (line-above u a t l)))
 
   -- a call that isn't turned down
   when-none : {n : ℕ} → When chip unit atten line n → n ≡ 0
       → (unit ≤ 1) × (atten ≤ 3) × (missing (tableOf chip unit) ≡ false) × (line .0 ≤ 4095)
-  when-none (unit-above u) e = absurd (omega arith)
-  when-none (atten-above a) e = absurd (omega arith)
+  when-none (no-unit h) e = absurd (omega arith)
   when-none (no-curve u a t) e = absurd (omega arith)
   when-none (line-above u a t l) e = absurd (omega arith)
   when-none (accepted u a t l) e = (u, a, t, l)

@@ -1,5 +1,5 @@
 -- Document 01, "Numbers given when a call is turned down": "Order: 1, 7, 2, then map records first to last with 3, 4, 5, 6 within
--- each", which comes before what a call has of its own. And the value of a field by its id.
+-- each", which comes before what a call has of its own. And the value of a field, by its record and by its id.
 use mathlib.Core.Bool.{not}
 use mathlib.Core.List.{List}
 use Prim.Native.Nat.{ℕ, _-_}
@@ -7,7 +7,7 @@ use lib.ListN.{length}
 use lib.Dec.{eqb}
 use Rattle.terms.specs.declared.chip.MapChip.{MapChip}
 use Rattle.terms.specs.Refuse.{refuse, orElse, unitRefusal}
-use Rattle.efuse.specs.Field.{fieldBits}
+use Rattle.efuse.specs.Field.{fieldBits, valueOf, readOf}
 use Rattle.efuse.specs.Map.{idsOf, fieldOf, mapRefusal}
 
 -- of a call that takes no unit and no attenuation
@@ -25,6 +25,10 @@ decodingRefusal words chip dump map unit atten =
     refuse (not (eqb (length dump) 88)) 1
     (orElse (unitRefusal unit atten)
     (mapRefusal words chip map))
+
+-- the value of the field of record k, at 32 bits; zero where it can't be read
+unfoldable pub recordValue : (ℕ → ℕ) → List ℕ → List ℕ → ℕ → ℕ
+recordValue words dump map k = valueOf (readOf 32 words dump (fieldOf map k))
 
 -- the bits of the field with that id: all of them, since no field of a map has more than 15
 unfoldable pub valueAt : MapChip → List ℕ → List ℕ → ℕ → ℕ

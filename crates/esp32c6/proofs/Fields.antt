@@ -10,17 +10,18 @@ use Rattle.efuse.specs.Decoding.{fieldsRefusal, valueAt}
 use Rattle.efuse.proofs.Decodings.{value-fits}
 
 module _ (words : ℕ → ℕ) (dump map : List ℕ) (good : fieldsRefusal words C6 dump map ≡ 0) where
-  pub init-fits : (atten : ℕ) → atten ≤ 3 → valueAt C6 dump map (9 + atten) < 2 ^ 15
-  init-fits atten h =
-      value-fits words C6 dump map good (9 + atten) (omega arith) (omega arith) 15
-      (rule (λ k. at-most (countsOf (9 + k) .max) 15) 4 tt atten (omega arith))
+  module _ (atten : ℕ) (h : atten ≤ 3) where
+    pub init-fits : valueAt C6 dump map (9 + atten) < 2 ^ 15
+    init-fits =
+        value-fits words C6 dump map good (9 + atten) atten (omega arith) (omega arith) 15
+        (rule (λ k. at-most (countsOf (9 + k) .max) 15) 4 tt atten (omega arith))
 
-  pub cal-fits : (atten : ℕ) → atten ≤ 3 → valueAt C6 dump map (13 + atten) < 2 ^ 10
-  cal-fits atten h =
-      value-fits words C6 dump map good (13 + atten) (omega arith) (omega arith) 10
-      (rule (λ k. at-most (countsOf (13 + k) .max) 10) 4 tt atten (omega arith))
+    pub cal-fits : valueAt C6 dump map (13 + atten) < 2 ^ 10
+    cal-fits =
+        value-fits words C6 dump map good (13 + atten) (4 + atten) (omega arith) (omega arith) 10
+        (rule (λ k. at-most (countsOf (13 + k) .max) 10) 4 tt atten (omega arith))
 
   pub channel-fits : (channel : ℕ) → channel ≤ 6 → valueAt C6 dump map (17 + channel) < 2 ^ 4
   channel-fits channel h =
-      value-fits words C6 dump map good (17 + channel) (omega arith) (omega arith) 4
+      value-fits words C6 dump map good (17 + channel) (8 + channel) (omega arith) (omega arith) 4
       (rule (λ k. at-most (countsOf (17 + k) .max) 4) 7 tt channel (omega arith))

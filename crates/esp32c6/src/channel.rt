@@ -1,8 +1,8 @@
 // The C6's compensation by channel.
 use crate::field::ADC1_INIT_CODE_ATTEN0_CH0;
 use crate::field::get_signed_val;
-use crate::field::value_at;
 use efuse::decoding::decoding_refusal;
+use efuse::decoding::value_at;
 use terms::chip::MapChip;
 use terms::refusal;
 use terms::refusal::Refusal;

@@ -2,9 +2,9 @@
 use crate::field::ADC1_CAL_VOL_ATTEN0;
 use crate::field::ADC1_INIT_CODE_ATTEN0;
 use crate::field::get_signed_val;
-use crate::field::value_at;
 use crate::version::rtc_calib_version;
 use efuse::decoding::decoding_refusal;
+use efuse::decoding::value_at;
 use terms::chip::MapChip;
 use terms::refusal;
 use terms::refusal::Refusal;

@@ -6,7 +6,7 @@ use native.Mathlib.Omega.{arith}
 use lib.Dec.{T}
 use lib.IntN.{pos, natAbs}
 use lib.Signed.{nonNeg, pos-natAbs}
-use Rattle.terms.proofs.Check.{Check, at-most, also, so, all, rule}
+use Rattle.terms.proofs.Check.{Check, at-most, by, also, all, rule}
 use Rattle.terms.proofs.Whole.{up, dn}
 use Rattle.esp32s2.specs.declared.table.RtcCalibEntry.{RtcCalibEntry}
 use Rattle.esp32s2.specs.Table.{beginBit, bitLength, multiplier, base, depends, calibMap, entryAt, along, rankOf}
@@ -35,25 +35,13 @@ pub record Rule (tag : ℕ) : Type 0 where
   pub least : along spanOf 4 tag + along dnBase 4 tag + 577 ≤ along upBase 4 tag
   pub most : along spanOf 4 tag + along upBase 4 tag ≤ 7986 + along dnBase 4 tag
 
-plain : (e : RtcCalibEntry) → Check (pos (natAbs (multiplier e)) ≡ multiplier e)
-plain e = record { passes = nonNeg (multiplier e); shows = pos-natAbs (multiplier e) }
+whole : (e : RtcCalibEntry) → Check (pos (natAbs (multiplier e)) ≡ multiplier e)
+whole e = record { passes = nonNeg (multiplier e); shows = pos-natAbs (multiplier e) }
 
 check : (tag : ℕ) → Check (Rule tag)
 check tag =
     let e : RtcCalibEntry = entryAt tag in
-    so
-    (also (at-most 1 (bitLength e))
-    (also (at-most (bitLength e) 10)
-    (also (at-most (beginBit e + bitLength e) 256)
-    (also (plain e)
-    (also (at-most (natAbs (multiplier e)) 4)
-    (also (at-most (upBase e) 8191)
-    (also (at-most (dnBase e) 8191)
-    (also (at-most (suc (depends e)) 33)
-    (also (at-most (suc (rankOf (depends e))) (rankOf tag))
-    (also (at-most (rankOf tag) 4)
-    (also (at-most (along spanOf 4 tag + along dnBase 4 tag + 577) (along upBase 4 tag))
-    (at-most (along spanOf 4 tag + along upBase 4 tag) (7986 + along dnBase 4 tag)))))))))))))
+    by
     (λ p.
     (let q = p .1 .1 .1 .1 .1 .1 in
     record {
@@ -70,9 +58,21 @@ check tag =
       least = q .1 .1 .1 .1 .0;
       most = q .1 .1 .1 .1 .1;
     }))
+    (also (at-most 1 (bitLength e))
+    (also (at-most (bitLength e) 10)
+    (also (at-most (beginBit e + bitLength e) 256)
+    (also (whole e)
+    (also (at-most (natAbs (multiplier e)) 4)
+    (also (at-most (upBase e) 8191)
+    (also (at-most (dnBase e) 8191)
+    (also (at-most (suc (depends e)) 33)
+    (also (at-most (suc (rankOf (depends e))) (rankOf tag))
+    (also (at-most (rankOf tag) 4)
+    (also (at-most (along spanOf 4 tag + along dnBase 4 tag + 577) (along upBase 4 tag))
+    (at-most (along spanOf 4 tag + along upBase 4 tag) (7986 + along dnBase 4 tag)))))))))))))
 
 passed : T (all (λ k. check (suc k) .passes) 32)
-unfolding check plain entryAt calibMap rankOf along
+unfolding check whole entryAt calibMap rankOf along
 passed = tt
 
 -- the rule of each tag from 1 to 32

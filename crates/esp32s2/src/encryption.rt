@@ -1,13 +1,15 @@
 // The S2's flash encryption.
-use crate::field::SPI_BOOT_CRYPT_CNT;
-use crate::field::value_at;
 use efuse::decoding::fields_refusal;
+use efuse::decoding::value_at;
 use terms::chip::MapChip;
 use terms::refusal;
 use terms::refusal::Refusal;
 ghost use mathlib.Core.Path.{_≡_};
 ghost use Rattle.efuse.specs.Field.{eight};
 ghost use Rattle.esp32s2.specs.Encryption.{oddOnes, flashEncryptionOf};
+
+// Where the map has the field with id 8.
+const SPI_BOOT_CRYPT_CNT: usize = 1;
 
 // Whether flash encryption is on, or why that isn't known.
 pub enum FlashEncryption {
@@ -30,5 +32,5 @@ pub fn flash_encryption(dump: &[u32], map: &[u8]) -> FlashEncryption
     if number != refusal::NONE {
         return FlashEncryption::Refused(Refusal { number });
     }
-    FlashEncryption::Value(odd_ones(value_at(dump, map, SPI_BOOT_CRYPT_CNT)))
+    FlashEncryption::Value(odd_ones(value_at(dump, map, SPI_BOOT_CRYPT_CNT) as u8))
 }

@@ -2,7 +2,6 @@
 // encryption.
 pub mod code;
 pub mod encryption;
-mod field;
 pub mod reading;
 pub mod reference;
 mod table;

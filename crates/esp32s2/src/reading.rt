@@ -2,6 +2,7 @@
 use crate::table::entry_at;
 use crate::tag::RtcCalibParam;
 use crate::tag::rtc_calib_tag;
+use efuse::field::DUMP_WORDS;
 use efuse::field::EfuseField;
 use efuse::field::Read;
 use efuse::field::read_field_u32;
@@ -16,8 +17,6 @@ ghost use Rattle.terms.specs.Sign.{signMagnitude};
 ghost use Rattle.efuse.specs.Field.{bitsOf};
 ghost use Rattle.esp32s2.specs.Table.{entryAt};
 ghost use Rattle.esp32s2.specs.Reading.{termOf, readingOf, readingRefusal, calibReadingOf, skippedReadingOf};
-
-const DUMP_WORDS: usize = 88;
 
 const TABLE_BLOCK: u8 = 2;
 

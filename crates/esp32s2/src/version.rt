@@ -1,13 +1,15 @@
 // The version of the S2's calibration.
-use crate::field::BLK_VERSION_MINOR;
-use crate::field::value_at;
 use efuse::decoding::fields_refusal;
+use efuse::decoding::value_at;
 use terms::chip::MapChip;
 use terms::refusal;
 use terms::refusal::Refusal;
 ghost use mathlib.Core.Path.{_≡_};
 ghost use Rattle.efuse.specs.Field.{eight};
 ghost use Rattle.esp32s2.specs.Version.{calibVersionOf};
+
+// Where the map has the field with id 7.
+pub(crate) const BLK_VERSION_MINOR: usize = 0;
 
 // A version, or why there is none.
 pub enum Version {
@@ -23,5 +25,5 @@ pub fn rtc_calib_version(dump: &[u32], map: &[u8]) -> Version
     if number != refusal::NONE {
         return Version::Refused(Refusal { number });
     }
-    Version::Value(value_at(dump, map, BLK_VERSION_MINOR))
+    Version::Value(value_at(dump, map, BLK_VERSION_MINOR) as u8)
 }

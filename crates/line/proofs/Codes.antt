@@ -10,7 +10,7 @@ use lib.IntN.{ℤ, pos, negℤ, natAbs, _+ℤ_, _*ℤ_, *ℤ-comm}
 use lib.Dec.{eqb, lit≤}
 use borrow.Author.Tests.{lt-ltb, le-ltb}
 use Rattle.terms.specs.Sign.{signMagnitude}
-use Rattle.terms.proofs.Order.{either}
+use Rattle.terms.proofs.Order.{either, picked}
 use Rattle.terms.proofs.Sign.{sign-plus, sign-minus, sign-fits}
 use Rattle.terms.proofs.Whole.{up, dn, sum-is, up-neg, dn-neg, up-times, dn-times, not-negative}
 use Rattle.line.specs.Code.{byUnit, stepped, vrefOf, wrapped, twoPointCode, pointOf, Coded, lowOf, highOf, Apart}
@@ -122,11 +122,7 @@ module _ {base width bits sign : ℕ} (k : Coded base width bits) (worth : sign 
 
 -- what holds of ADC1's and of ADC2's holds of a unit's
 pub by-unit : (P : ℕ → Type 0) (unit : ℕ) {adc1 adc2 : ℕ} → P adc1 → P adc2 → P (byUnit unit adc1 adc2)
-by-unit P unit {adc1} {adc2} p q = by (eqb unit 0)
-  where
-    by : (t : Bool) → P (cond t adc1 adc2)
-    by true = p
-    by false = q
+by-unit P unit p q = picked P (eqb unit 0) p q
 
 -- a unit's bases have room for the lowest codes
 pub low-coded : (unit bits : ℕ) → bits < 128 → Coded (byUnit unit 278 421) 7 bits

@@ -1,11 +1,11 @@
 -- Laws of converting: each of its refusals is given exactly when document 01 says, which case a conversion is, and that no answer is
 -- above 12,285. Assumes nothing.
 use mathlib.Core.Path.{_≡_, refl, sym, _∙_, ap}
-use Prim.Native.Nat.{ℕ, zero, suc, _≤_, _<_}
+use Prim.Native.Nat.{ℕ, _≤_, _<_}
 use native.Mathlib.Omega.{arith}
 use lib.Dec.{ltb}
 use borrow.Author.Tests.{lt-ltb, le-ltb, ltb-true, ltb-false}
-use Rattle.terms.specs.Refuse.{byNumber, answered}
+use Rattle.terms.proofs.Answers.{Paper, answer-value}
 use Rattle.terms.proofs.Order.{either}
 use Rattle.terms.proofs.Refusals.{byNumber-good, byNumber-refused}
 use Rattle.line.specs.declared.record.LineRecord.{LineRecord}
@@ -14,14 +14,10 @@ use Rattle.line.specs.Convert.{answerAt, convertRefusal, numberOf, value
 use Rattle.line.proofs.Answers.{answer-most}
 use Rattle.line.proofs.Records.{Exactly, exactly}
 
--- a conversion has the number and the millivolts that it was given, zeros beside a refusal
-pub convert-number : (n v : ℕ) → numberOf (answered n (Voltage (record { 0 = v })) Refused) ≡ n
-convert-number zero v = refl
-convert-number (suc n) v = refl
-
-pub convert-value : (n v : ℕ) → valueOf (answered n (Voltage (record { 0 = v })) Refused) ≡ byNumber n v 0
-convert-value zero v = refl
-convert-value (suc n) v = refl
+-- the number and the millivolts of a conversion are document 01's
+pub converted-paper : Paper numberOf valueOf 0 (λ mv. Voltage (record { 0 = mv })) Refused
+converted-paper =
+    record { good-number = λ v. refl; good-value = λ v. refl; refused-number = λ r. refl; refused-value = λ r. refl }
 
 module _ (r : LineRecord) (raw : ℕ) where
   -- 10: line record outside its ranges
@@ -45,7 +41,7 @@ module _ (r : LineRecord) (raw : ℕ) where
   pub convert-most : valueOf (convertOf r raw) ≤ 12285
   unfolding convertOf
   convert-most =
-      rw (convert-value (convertRefusal r raw) (answerAt r raw))
+      rw (answer-value converted-paper (convertRefusal r raw) (answerAt r raw))
       (either (convertRefusal r raw) 0
       (λ none.
       let e : convertRefusal r raw ≡ 0 = omega arith in

@@ -2,16 +2,13 @@
 -- records first to last with 3, 4, 5, 6 within each, then .. 9". A dump is the list of its words, a map that of its bytes.
 -- In the crate: `new_cal` and `check_efuse_tp` of calibration/line/esp32.rs, which cites ESP-IDF's
 -- components/esp_adc/esp32/adc_cali_line_fitting.c, line 155.
-use mathlib.Core.Path.{_≡_}
-use mathlib.Core.Bool.{Bool, false, not, cond, _&&_, _||_}
+use mathlib.Core.Bool.{Bool, false, not, cond, _&&_}
 use mathlib.Core.List.{List}
-use Prim.Native.Nat.{ℕ, _-_}
-use lib.ListN.{length}
-use lib.Dec.{ltb, eqb}
+use Prim.Native.Nat.{ℕ}
+use lib.Dec.{eqb}
 use Rattle.terms.specs.declared.chip.MapChip.the-variants.{Esp32}
-use Rattle.terms.specs.Refuse.{refuse, orElse, answered}
-use Rattle.efuse.specs.Field.{fieldBits}
-use Rattle.efuse.specs.Map.{fieldOf, mapRefusal}
+use Rattle.terms.specs.Refuse.{orElse, answered}
+use Rattle.efuse.specs.Decoding.{decodingRefusal, valueAt}
 use Rattle.line.specs.declared.record.LineRecord.{LineRecord}
 use Rattle.line.specs.declared.characterize.Source.{Source}
 use Rattle.line.specs.declared.characterize.Source.the-variants.{TwoPoint, Vref}
@@ -22,26 +19,22 @@ use Rattle.line.specs.Record.{recordOf}
 use Rattle.line.specs.Code.{byUnit, vrefOf}
 use Rattle.line.specs.Characterize.{coefficientsOf, sourceRefusal}
 
--- the raw bits of the field with an id: an ESP32 map's ids rise from 1, so that the field stands in record id − 1
-abbrev pub rawOf : List ℕ → List ℕ → ℕ → ℕ
-rawOf dump map id = fieldBits 32 dump (fieldOf map (id - 1))
-
 -- id 2 is BLK3_PART_RESERVE, 3 and 4 are ADC1_TP_LOW and ADC2_TP_LOW, 5 and 6 ADC1_TP_HIGH and ADC2_TP_HIGH.
 -- "Two-point is used exactly if the reserve bit is 1 and all four codes' raw bits are nonzero"
 unfoldable pub twoPointUsed : List ℕ → List ℕ → Bool
 twoPointUsed dump map =
-    eqb (rawOf dump map 2) 1
-    && not (eqb (rawOf dump map 3) 0)
-    && not (eqb (rawOf dump map 4) 0)
-    && not (eqb (rawOf dump map 5) 0)
-    && not (eqb (rawOf dump map 6) 0)
+    eqb (valueAt Esp32 dump map 2) 1
+    && not (eqb (valueAt Esp32 dump map 3) 0)
+    && not (eqb (valueAt Esp32 dump map 4) 0)
+    && not (eqb (valueAt Esp32 dump map 5) 0)
+    && not (eqb (valueAt Esp32 dump map 6) 0)
 
 -- the raw bits of a unit's low and high codes
 abbrev pub lowBits : List ℕ → List ℕ → ℕ → ℕ
-lowBits dump map unit = byUnit unit (rawOf dump map 3) (rawOf dump map 4)
+lowBits dump map unit = byUnit unit (valueAt Esp32 dump map 3) (valueAt Esp32 dump map 4)
 
 abbrev pub highBits : List ℕ → List ℕ → ℕ → ℕ
-highBits dump map unit = byUnit unit (rawOf dump map 5) (rawOf dump map 6)
+highBits dump map unit = byUnit unit (valueAt Esp32 dump map 5) (valueAt Esp32 dump map 6)
 
 -- "else Vref"
 unfoldable pub sourceOf : List ℕ → List ℕ → ℕ → Source
@@ -51,7 +44,7 @@ sourceOf dump map unit = cond (twoPointUsed dump map) (TwoPoint (lowBits dump ma
 unfoldable pub foundOf : List ℕ → List ℕ → ℕ → ℕ → Found
 foundOf dump map unit atten =
     let source : Source = sourceOf dump map unit in
-    let vref : ℕ = rawOf dump map 1 in
+    let vref : ℕ = valueAt Esp32 dump map 1 in
     record { source = source; vref = vref; line = coefficientsOf unit atten (vrefOf vref) source }
 
 -- the record made from it; its Vref is that of id 1, whatever a and b come from
@@ -61,19 +54,11 @@ recordFrom found unit atten = recordOf (found .line .a) (found .line .b) (vrefOf
 unfoldable pub decodedRecord : List ℕ → List ℕ → ℕ → ℕ → LineRecord
 decodedRecord dump map unit atten = recordFrom (foundOf dump map unit atten) unit atten
 
--- 1: the dump hasn't 88 words
--- 7: unit above 1 or attenuation above 3
--- then 2, and 3, 4, 5, 6 for each record of the map
-unfoldable pub inputRefusal : (ℕ → ℕ) → List ℕ → List ℕ → ℕ → ℕ → ℕ
-inputRefusal words dump map unit atten =
-    refuse (not (eqb (length dump) 88)) 1
-    (refuse (ltb 1 unit || ltb 3 atten) 7
-    (mapRefusal words Esp32 map))
-
--- then 9
+-- 1, 7 and those of the map, then 9
 unfoldable pub decodeRefusal : (ℕ → ℕ) → List ℕ → List ℕ → ℕ → ℕ → ℕ
 decodeRefusal words dump map unit atten =
-    orElse (inputRefusal words dump map unit atten) (sourceRefusal unit (sourceOf dump map unit))
+    orElse (decodingRefusal words Esp32 dump map unit atten)
+    (sourceRefusal unit (sourceOf dump map unit))
 
 -- document 01's number and record of a decoding, zeros beside a refusal
 abbrev pub numberOf : Decoded → ℕ
@@ -91,8 +76,3 @@ valueOf (Refused r) = noRecord
 unfoldable pub decodeOf : (ℕ → ℕ) → List ℕ → List ℕ → ℕ → ℕ → Decoded
 decodeOf words dump map unit atten =
     answered (decodeRefusal words dump map unit atten) (Record (decodedRecord dump map unit atten)) Refused
-
--- What private functions ask of a dump and a map: nothing in them is refused, so that each field of the map may be read
-pub record Mapped (words : ℕ → ℕ) (dump map : List ℕ) : Type 0 where
-  pub whole : length dump ≡ 88
-  pub passed : mapRefusal words Esp32 map ≡ 0

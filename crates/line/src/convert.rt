@@ -21,7 +21,7 @@ pub(crate) const COEFF_A_ROUND: u32 = 32768;
 
 pub(crate) const LUT_HIGH_THRESH: u32 = 2944;
 
-const LAST_COUNT: u16 = 4095;
+pub const LAST_COUNT: u16 = 4095;
 
 // A count's voltage, or why it wasn't converted.
 pub enum Converted {

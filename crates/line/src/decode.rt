@@ -5,37 +5,30 @@ use crate::characterize::Source;
 use crate::code;
 use crate::record;
 use crate::record::LineRecord;
-use efuse::field;
-use efuse::field::Read;
-use efuse::map;
+use efuse::decoding::decoding_refusal;
+use efuse::decoding::value_at;
 use terms::chip::MapChip;
 use terms::refusal;
-use terms::refusal::Outcome;
 use terms::refusal::Refusal;
 ghost use mathlib.Core.Path.{_≡_};
-ghost use Prim.Native.Nat.{_≤_, _<_};
+ghost use Prim.Native.Nat.{_<_};
+ghost use Rattle.terms.specs.declared.chip.MapChip.the-variants.{Esp32};
 ghost use Rattle.efuse.specs.Field.{eight};
-ghost use Rattle.line.specs.Decode.{rawOf, sourceOf, foundOf, recordFrom};
-ghost use Rattle.line.specs.Decode.{inputRefusal, decodeRefusal, numberOf, decodeOf, Mapped};
+ghost use Rattle.efuse.specs.Decoding.{fieldsRefusal};
+ghost use Rattle.line.specs.Decode.{sourceOf, foundOf, recordFrom, decodeRefusal, numberOf, decodeOf};
 
-const DUMP_WORDS: usize = 88;
+// Where an ESP32 map has its fields, whose ids are from 1 to 6.
+const ADC_VREF: usize = 0;
 
-const LAST_UNIT: u8 = 1;
+const BLK3_PART_RESERVE: usize = 1;
 
-const LAST_ATTEN: u8 = 3;
+const ADC1_TP_LOW: usize = 2;
 
-// The ids of an ESP32 map.
-const ADC_VREF: u32 = 1;
+const ADC2_TP_LOW: usize = 3;
 
-const BLK3_PART_RESERVE: u32 = 2;
+const ADC1_TP_HIGH: usize = 4;
 
-const ADC1_TP_LOW: u32 = 3;
-
-const ADC2_TP_LOW: u32 = 4;
-
-const ADC1_TP_HIGH: u32 = 5;
-
-const ADC2_TP_HIGH: u32 = 6;
+const ADC2_TP_HIGH: usize = 5;
 
 // A line record, or why there is none.
 pub enum Decoded {
@@ -50,59 +43,27 @@ pub(crate) struct Found {
     pub(crate) line: Coefficients,
 }
 
-// The first thing wrong with what is handed in: 1, 7, then the map's.
-fn input_refusal(dump: &[u32], map: &[u8], unit: u8, atten: u8) -> u8
-    ensures { λ r. ⌜ r ≡ inputRefusal eight (now (dump .entry)) (now (map .entry)) unit atten ⌝ }
-{
-    if dump.len() != DUMP_WORDS {
-        return refusal::DUMP;
-    }
-    if LAST_UNIT < unit {
-        return refusal::UNIT;
-    }
-    if LAST_ATTEN < atten {
-        return refusal::UNIT;
-    }
-    let checked = map::check_map(MapChip::Esp32, map);
-    let Outcome::Refused(wrong) = checked else {
-        return refusal::NONE;
-    };
-    wrong.number
-}
-
-// The raw bits of the field with that id. It is never refused: its map has passed.
-fn raw(dump: &[u32], map: &[u8], id: u32) -> u32
-    requires { ⌜ Mapped eight (now dump) (now map) × (1 ≤ id) × (id ≤ 6) ⌝ }
-    ensures { λ r. ⌜ r ≡ rawOf (now (dump .entry)) (now (map .entry)) id ⌝ }
-{
-    let read = field::read_field_u32(dump, map::field_at(map, (id - 1) as usize));
-    let Read::Value(bits) = read else {
-        return 0;
-    };
-    bits
-}
-
 // Where a unit's a and b come from. In the crate: `check_efuse_tp`.
 fn source(dump: &[u32], map: &[u8], unit: u8) -> Source
-    requires { ⌜ Mapped eight (now dump) (now map) ⌝ }
+    requires { ⌜ fieldsRefusal eight Esp32 (now dump) (now map) ≡ 0 ⌝ }
     ensures { λ r. ⌜ r ≡ sourceOf (now (dump .entry)) (now (map .entry)) unit ⌝ }
 {
-    if raw(dump, map, BLK3_PART_RESERVE) != 1 {
+    if value_at(dump, map, BLK3_PART_RESERVE) != 1 {
         return Source::Vref;
     }
-    let low1 = raw(dump, map, ADC1_TP_LOW);
+    let low1 = value_at(dump, map, ADC1_TP_LOW);
     if low1 == 0 {
         return Source::Vref;
     }
-    let low2 = raw(dump, map, ADC2_TP_LOW);
+    let low2 = value_at(dump, map, ADC2_TP_LOW);
     if low2 == 0 {
         return Source::Vref;
     }
-    let high1 = raw(dump, map, ADC1_TP_HIGH);
+    let high1 = value_at(dump, map, ADC1_TP_HIGH);
     if high1 == 0 {
         return Source::Vref;
     }
-    let high2 = raw(dump, map, ADC2_TP_HIGH);
+    let high2 = value_at(dump, map, ADC2_TP_HIGH);
     if high2 == 0 {
         return Source::Vref;
     }
@@ -117,7 +78,7 @@ fn find(dump: &[u32], map: &[u8], unit: u8, atten: u8, source: Source) -> Found
     requires { ⌜ (decodeRefusal eight (now dump) (now map) unit atten ≡ 0) × (source ≡ sourceOf (now dump) (now map) unit) ⌝ }
     ensures { λ r. ⌜ r ≡ foundOf (now (dump .entry)) (now (map .entry)) unit atten ⌝ }
 {
-    let vref = raw(dump, map, ADC_VREF);
+    let vref = value_at(dump, map, ADC_VREF);
     let line = characterize::characterize(unit, atten, code::efuse_vref(vref), source);
     Found { source, vref, line }
 }
@@ -136,7 +97,7 @@ fn record_from(found: Found, unit: u8, atten: u8) -> LineRecord
 pub fn decode(dump: &[u32], map: &[u8], unit: u8, atten: u8) -> Decoded
     ensures { λ r. ⌜ r ≡ decodeOf eight (now (dump .entry)) (now (map .entry)) unit atten ⌝ }
 {
-    let number = input_refusal(dump, map, unit, atten);
+    let number = decoding_refusal(MapChip::Esp32, dump, map, unit, atten);
     if number != refusal::NONE {
         return Decoded::Refused(Refusal { number });
     }

@@ -13,8 +13,6 @@ const SMALLEST_VREF: u32 = 995;
 
 const LARGEST_VREF: u32 = 1205;
 
-const LAST_UNIT: u8 = 1;
-
 const LUT_ATTEN: u8 = 3;
 
 // The line's coefficients, Vref in millivolts, the unit, and whether the lookup is used.
@@ -66,7 +64,7 @@ pub(crate) fn record_refusal(cal: LineRecord) -> u8
     if LARGEST_VREF < vref {
         return refusal::LINE_RECORD;
     }
-    if LAST_UNIT < unit {
+    if refusal::LAST_UNIT < unit {
         return refusal::LINE_RECORD;
     }
     refusal::NONE

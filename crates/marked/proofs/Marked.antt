@@ -5,9 +5,10 @@ use Rattle.terms.specs.Refuse.{firstOf, unitRefusal}
 use Rattle.terms.specs.Sign.{signMagnitude}
 use Rattle.efuse.specs.Field.{bitsOf, placeRefusal, fieldBits}
 use Rattle.efuse.specs.Map.{countRefusal, recordRefusal as mapRecordRefusal, mapRefusal}
+use Rattle.efuse.specs.Decoding.{decodingRefusal, valueAt}
 use Rattle.line.specs.Code.{vrefOf, twoPointCode, pointOf, lowOf, highOf}
 use Rattle.line.specs.Characterize.{tpScale, tpOffset, vrefScale, vrefOffset, twoPointA, topOf, twoPointB, topRefusal, coefficientsOf, sourceRefusal}
-use Rattle.line.specs.Decode.{twoPointUsed, sourceOf, foundOf, decodedRecord, inputRefusal, decodeRefusal, decodeOf}
+use Rattle.line.specs.Decode.{twoPointUsed, sourceOf, foundOf, decodedRecord, decodeRefusal, decodeOf}
 use Rattle.line.specs.Record.{usesLookup, recordRefusal}
 use Rattle.line.specs.Lookup.{lowAt, highAt, lookupNumerator, lookupVoltage}
 use Rattle.line.specs.Convert.{lineVoltage, blendOf, beyondLine, answerAt, convertRefusal, convertOf}
@@ -25,8 +26,8 @@ unfolding
     vrefOf twoPointCode pointOf lowOf highOf signMagnitude
     tpScale tpOffset vrefScale vrefOffset twoPointA topOf twoPointB topRefusal coefficientsOf sourceRefusal
     usesLookup recordRefusal lowAt highAt lookupNumerator lookupVoltage lineVoltage blendOf beyondLine answerAt convertRefusal convertOf
-    firstOf bitsOf placeRefusal fieldBits countRefusal mapRecordRefusal mapRefusal
-    twoPointUsed sourceOf foundOf decodedRecord inputRefusal decodeRefusal decodeOf
+    firstOf bitsOf placeRefusal fieldBits countRefusal mapRecordRefusal mapRefusal decodingRefusal valueAt
+    twoPointUsed sourceOf foundOf decodedRecord decodeRefusal decodeOf
     calibMap entryAt termOf within readingOf
     offsetOf calCode compensOf
     nearest doublings scaled magnitude coefficient tableOf horner errorOf correctedOf correctRefusal correctOf unitRefusal

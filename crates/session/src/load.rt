@@ -1,4 +1,5 @@
 // Loading a dump from the bytes of its file.
+use efuse::field::DUMP_WORDS;
 use terms::bytes::u16_of;
 use terms::bytes::u32_of;
 ghost use mathlib.Core.Path.{_≡_};
@@ -8,8 +9,6 @@ ghost use Rattle.io.specs.Counts.{Counts};
 ghost use Rattle.session.specs.Load.{wordAt, loadedCount, loadedInto};
 
 const DUMP_BYTES: usize = 352;
-
-const DUMP_WORDS: usize = 88;
 
 // Word k of a dump file, low byte first.
 fn word_at(bytes: &[u8], k: usize) -> u32

@@ -12,7 +12,7 @@ use Rattle.terms.specs.declared.chip.MapChip.the-variants.{C6}
 use Rattle.terms.proofs.Refusals.{answered-good, answered-refused}
 use Rattle.efuse.specs.Field.{eight}
 use Rattle.efuse.specs.Decoding.{fieldsRefusal, valueAt}
-use Rattle.efuse.proofs.Decodings.{decoding-good}
+use Rattle.efuse.proofs.Decodings.{decoding-good, value-is}
 use Rattle.esp32c6.specs.declared.channel.Compens.the-variants.{Value, Refused}
 use Rattle.esp32c6.specs.Channel.{compensOf, chanCompensOf}
 use Rattle.esp32c6.proofs.Fields.{channel-fits}
@@ -41,13 +41,16 @@ module _ (c : tie.Else1) where
   good = decoding-good _ _ _ _ _ _ (sym (c .before .decoding-refusal .ensures) ∙ c .if1 .left)
 
 value-at-requires : tie.Need-value-at-requires
-value-at-requires c κs = let g = good (c .before) in omega arith
+value-at-requires c κs = search needs
 
 -- the field that was read
 chan-diff : (c : tie.After-value-at)
     → let a = c .before .before .before .before .before .before .args in
     c .value-at .result ≡ valueAt C6 (now (a .dump)) (now (a .map)) (17 + min (a .channel) 6)
-chan-diff c = c .value-at .ensures ∙ rw (c .before .field-channel .ensures)
+chan-diff c =
+    let g = good (c .before .before) in
+    let e = c .before .field-channel .ensures in
+    value-is _ _ _ _ (g .0) _ _ (omega (arith, e)) (omega (arith, e)) (c .value-at .ensures)
 
 chan-compens-requires : tie.Need-chan-compens-requires
 chan-compens-requires c κs =

@@ -1,7 +1,7 @@
 -- `esp32c6::rtc_calib_cal_code` meets its contract: where nothing is refused the attenuation's field has ten bits.
 -- Assumes nothing.
 use mathlib.Core.Path.{_≡_, sym, _∙_, ap}
-use Prim.Native.Nat.{_≤_}
+use Prim.Native.Nat.{_+_, _≤_}
 use native.Mathlib.Omega.{arith}
 use lib.IntN.{ℤ, natAbs}
 use denote.Ref.{now}
@@ -9,7 +9,8 @@ use borrow.Author.Needs.{needs}
 use Rattle.terms.specs.declared.chip.MapChip.the-variants.{C6}
 use Rattle.terms.proofs.Refusals.{answered-good, answered-refused}
 use Rattle.efuse.specs.Field.{eight}
-use Rattle.efuse.specs.Decoding.{fieldsRefusal}
+use Rattle.efuse.specs.Decoding.{fieldsRefusal, valueAt}
+use Rattle.efuse.proofs.Decodings.{value-is}
 use Rattle.esp32c6.specs.declared.code.Code.the-variants.{Value, Refused}
 use Rattle.esp32c6.specs.Code.{calCode, calCodeOf}
 use Rattle.esp32c6.proofs.Codes.{code-good, offset-range}
@@ -33,7 +34,12 @@ add-value-at : tie.Need-add-value-at
 add-value-at c = search needs
 
 value-at-requires : tie.Need-value-at-requires
-value-at-requires c κs = let g = good c in omega arith
+value-at-requires c κs = search needs
+
+value : (c : tie.After-value-at)
+    → let a = c .before .before .before .before .before .args in
+    c .value-at .result ≡ valueAt C6 (now (a .dump)) (now (a .map)) (13 + a .atten)
+value c = let g = good (c .before) in value-is _ _ _ _ (g .0) _ _ (omega arith) (omega arith) (c .value-at .ensures)
 
 rtc-calib-version-requires : tie.Need-rtc-calib-version-requires
 rtc-calib-version-requires c κs = search needs
@@ -44,14 +50,14 @@ chk-offset-requires c κs = search needs
 cal-code-requires : tie.Need-cal-code-requires
 cal-code-requires c κs =
     let g = good (c .before .before .before) in
-    rw (c .chk-offset .ensures, c .before .before .value-at .ensures)
+    rw (c .chk-offset .ensures, value (c .before .before))
     (offset-range _ _ .0, offset-range _ _ .1, cal-fits _ _ _ (g .0) _ (g .1))
 
 returns-2 : tie.Need-returns-2
 unfolding calCodeOf calCode
 returns-2 c =
     let p = c .before .before .before in
-    let code = rw (c .before .chk-offset .ensures, c .before .before .rtc-calib-version .ensures, p .value-at .ensures)
+    let code = rw (c .before .chk-offset .ensures, c .before .before .rtc-calib-version .ensures, value p)
     at (c .cal-code .ensures) in
     answered-good _ _ Refused (sym (p .before .before .code-refusal .ensures) ∙ p .before .if1 .left)
     (ap (λ (z : ℤ). Value (natAbs z)) code)

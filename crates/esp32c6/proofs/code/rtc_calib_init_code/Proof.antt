@@ -8,7 +8,8 @@ use borrow.Author.Needs.{needs}
 use Rattle.terms.specs.declared.chip.MapChip.the-variants.{C6}
 use Rattle.terms.proofs.Refusals.{answered-good, answered-refused}
 use Rattle.efuse.specs.Field.{eight}
-use Rattle.efuse.specs.Decoding.{fieldsRefusal}
+use Rattle.efuse.specs.Decoding.{fieldsRefusal, valueAt}
+use Rattle.efuse.proofs.Decodings.{value-is}
 use Rattle.esp32c6.specs.declared.code.Code.the-variants.{Value, Refused}
 use Rattle.esp32c6.specs.Code.{initCodeOf}
 use Rattle.esp32c6.proofs.Codes.{code-good}
@@ -32,10 +33,15 @@ add-value-at : tie.Need-add-value-at
 add-value-at c = search needs
 
 value-at-requires : tie.Need-value-at-requires
-value-at-requires c κs = let g = good c in omega arith
+value-at-requires c κs = search needs
 
-few : (c : tie.After-value-at) → c .value-at .result < 2 ^ 15
-few c = let g = good (c .before) in rw (c .value-at .ensures) (init-fits _ _ _ (g .0) _ (g .1))
+module _ (c : tie.After-value-at) where
+  value : let a = c .before .before .before .before .before .args in
+      c .value-at .result ≡ valueAt C6 (now (a .dump)) (now (a .map)) (9 + a .atten)
+  value = let g = good (c .before) in value-is _ _ _ _ (g .0) _ _ (omega arith) (omega arith) (c .value-at .ensures)
+
+  few : c .value-at .result < 2 ^ 15
+  few = let g = good (c .before) in rw value (init-fits _ _ _ (g .0) _ (g .1))
 
 cast-t12 : tie.Need-cast-t12
 cast-t12 c = omega (arith, few c)
@@ -48,7 +54,7 @@ unfolding initCodeOf
 returns-2 c =
     let p = c .before in
     answered-good _ _ Refused (sym (p .before .code-refusal .ensures) ∙ p .if1 .left)
-    (ap (λ (n : ℕ). Value (n + 1600)) (c .value-at .ensures))
+    (ap (λ (n : ℕ). Value (n + 1600)) (value c))
 
 pub rtc-calib-init-code-spec : {M : Type 1} → statement M
 rtc-calib-init-code-spec =

@@ -1,10 +1,13 @@
 -- `esp32s2::code_refusal` meets its contract: at each `return` the tests that led there say which case of the definition holds.
 -- Assumes nothing.
-use mathlib.Core.Path.{sym, _∙_}
-use native.Mathlib.Omega.{arith}
+use mathlib.Core.Path.{_≡_, sym, _∙_}
+use lib.Dec.{lit≤}
+use denote.Ref.{now}
 use borrow.Author.Needs.{needs}
 use Rattle.efuse.proofs.Decodings.{decoding-good}
+use Rattle.esp32s2.specs.Version.{versionOf}
 use Rattle.esp32s2.proofs.Codes.{code-decoding, code-twelve, code-given}
+use Rattle.esp32s2.proofs.Fields.{field-is}
 use Rattle.esp32s2.proofs.code.code_refusal.Statement.{statement}
 use Rattle.esp32s2.proofs.code.code_refusal.Tie as tie
 
@@ -15,20 +18,29 @@ returns : tie.Need-returns
 returns c = code-decoding _ _ _ _ _ (c .before .decoding-refusal .ensures) (c .if1 .taken)
 
 value-at-requires : tie.Need-value-at-requires
-value-at-requires c κs =
-    let good = decoding-good _ _ _ _ _ _ (sym (c .before .decoding-refusal .ensures) ∙ c .if1 .left) in
-    (good .0, omega arith, omega arith)
+value-at-requires c κs = search needs
+
+version : (c : tie.After-value-at)
+    → let a = c .before .before .before .before .before .args in
+    c .value-at .result ≡ versionOf (now (a .dump)) (now (a .map))
+version c =
+    let p = c .before in
+    let good = decoding-good _ _ _ _ _ _ (sym (p .before .decoding-refusal .ensures) ∙ p .if1 .left) in
+    field-is _ _ _ (good .0) 0 (lit≤ tt) (c .value-at .ensures)
+
+cast-if2 : tie.Need-cast-if2
+cast-if2 c = search needs
 
 returns-2 : tie.Need-returns-2
 returns-2 c =
     let p = c .before .before in
-    code-twelve _ _ _ _ _ (p .before .decoding-refusal .ensures) (p .if1 .left) (c .before .value-at .ensures) (c .if2 .taken)
+    code-twelve _ _ _ _ _ (p .before .decoding-refusal .ensures) (p .if1 .left) (version (c .before)) (c .if2 .taken)
 
 returns-3 : tie.Need-returns-3
 returns-3 c =
     let p = c .before .before in
-    code-given _ _ _ _ _ (p .before .decoding-refusal .ensures) (p .if1 .left) (c .before .value-at .ensures) (c .if2 .left)
+    code-given _ _ _ _ _ (p .before .decoding-refusal .ensures) (p .if1 .left) (version (c .before)) (c .if2 .left)
 
 pub code-refusal-spec : {M : Type 1} → statement M
 code-refusal-spec =
-    tie.close (tie.spec decoding-refusal-requires returns value-at-requires returns-2 returns-3)
+    tie.close (tie.spec decoding-refusal-requires returns value-at-requires cast-if2 returns-2 returns-3)

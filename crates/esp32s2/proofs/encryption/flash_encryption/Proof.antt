@@ -1,9 +1,15 @@
--- `esp32s2::flash_encryption` meets its contract: the refusal's number says which case the answer is. Assumes nothing.
-use mathlib.Core.Path.{sym, _∙_, ap}
+-- `esp32s2::flash_encryption` meets its contract: where nothing is refused the field has eight bits at most. Assumes nothing.
+use mathlib.Core.Path.{_≡_, sym, _∙_, ap}
+use lib.Dec.{lit≤}
+use denote.Ref.{now}
 use borrow.Author.Needs.{needs}
+use Rattle.terms.specs.declared.chip.MapChip.the-variants.{S2}
 use Rattle.terms.proofs.Refusals.{answered-good, answered-refused}
+use Rattle.efuse.specs.Field.{eight}
+use Rattle.efuse.specs.Decoding.{fieldsRefusal, valueAt}
 use Rattle.esp32s2.specs.declared.encryption.FlashEncryption.the-variants.{Value, Refused}
 use Rattle.esp32s2.specs.Encryption.{oddOnes, flashEncryptionOf}
+use Rattle.esp32s2.proofs.Fields.{field-fits, field-is}
 use Rattle.esp32s2.proofs.encryption.flash_encryption.Statement.{statement}
 use Rattle.esp32s2.proofs.encryption.flash_encryption.Tie as tie
 
@@ -17,17 +23,26 @@ returns c = answered-refused _ _ Refused (c .before .fields-refusal .ensures) (c
 value-at-requires : tie.Need-value-at-requires
 value-at-requires c κs = search needs
 
+module _ (c : tie.After-value-at) where
+  good : let a = c .before .before .before .before .before .args in fieldsRefusal eight S2 (now (a .dump)) (now (a .map)) ≡ 0
+  good = sym (c .before .before .fields-refusal .ensures) ∙ c .before .if1 .left
+
+  count : let a = c .before .before .before .before .before .args in
+      c .value-at .result ≡ valueAt S2 (now (a .dump)) (now (a .map)) 8
+  count = field-is _ _ _ good 1 (lit≤ tt) (c .value-at .ensures)
+
+cast-odd-ones : tie.Need-cast-odd-ones
+cast-odd-ones c = record { fits = rw (count c) (field-fits _ _ _ (good c) 1 (lit≤ tt)) }
+
 odd-ones-requires : tie.Need-odd-ones-requires
 odd-ones-requires c κs = search needs
 
 returns-2 : tie.Need-returns-2
 unfolding flashEncryptionOf
 returns-2 c =
-    let p = c .before .before in
-    answered-good _ _ Refused (sym (p .before .fields-refusal .ensures) ∙ p .if1 .left)
-    (ap Value (c .odd-ones .ensures ∙ ap oddOnes (c .before .value-at .ensures)))
+    answered-good _ _ Refused (good (c .before)) (ap Value (c .odd-ones .ensures ∙ ap oddOnes (count (c .before))))
 
 pub flash-encryption-spec : {M : Type 1} → statement M
 flash-encryption-spec =
     tie.close
-    (tie.spec fields-refusal-requires returns value-at-requires odd-ones-requires returns-2)
+    (tie.spec fields-refusal-requires returns value-at-requires cast-odd-ones odd-ones-requires returns-2)

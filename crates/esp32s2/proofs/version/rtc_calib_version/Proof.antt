@@ -1,9 +1,15 @@
--- `esp32s2::rtc_calib_version` meets its contract: the refusal's number says which case the answer is. Assumes nothing.
-use mathlib.Core.Path.{sym, _∙_, ap}
+-- `esp32s2::rtc_calib_version` meets its contract: where nothing is refused the field has eight bits at most. Assumes nothing.
+use mathlib.Core.Path.{_≡_, sym, _∙_, ap}
+use lib.Dec.{lit≤}
+use denote.Ref.{now}
 use borrow.Author.Needs.{needs}
+use Rattle.terms.specs.declared.chip.MapChip.the-variants.{S2}
 use Rattle.terms.proofs.Refusals.{answered-good, answered-refused}
+use Rattle.efuse.specs.Field.{eight}
+use Rattle.efuse.specs.Decoding.{fieldsRefusal}
 use Rattle.esp32s2.specs.declared.version.Version.the-variants.{Value, Refused}
-use Rattle.esp32s2.specs.Version.{calibVersionOf}
+use Rattle.esp32s2.specs.Version.{versionOf, calibVersionOf}
+use Rattle.esp32s2.proofs.Fields.{field-fits, field-is}
 use Rattle.esp32s2.proofs.version.rtc_calib_version.Statement.{statement}
 use Rattle.esp32s2.proofs.version.rtc_calib_version.Tie as tie
 
@@ -17,12 +23,21 @@ returns c = answered-refused _ _ Refused (c .before .fields-refusal .ensures) (c
 value-at-requires : tie.Need-value-at-requires
 value-at-requires c κs = search needs
 
+module _ (c : tie.After-value-at) where
+  good : let a = c .before .before .before .before .before .args in fieldsRefusal eight S2 (now (a .dump)) (now (a .map)) ≡ 0
+  good = sym (c .before .before .fields-refusal .ensures) ∙ c .before .if1 .left
+
+  version : let a = c .before .before .before .before .before .args in
+      c .value-at .result ≡ versionOf (now (a .dump)) (now (a .map))
+  version = field-is _ _ _ good 0 (lit≤ tt) (c .value-at .ensures)
+
+cast-t8 : tie.Need-cast-t8
+cast-t8 c = record { fits = rw (version c) (field-fits _ _ _ (good c) 0 (lit≤ tt)) }
+
 returns-2 : tie.Need-returns-2
 unfolding calibVersionOf
-returns-2 c =
-    let p = c .before in
-    answered-good _ _ Refused (sym (p .before .fields-refusal .ensures) ∙ p .if1 .left) (ap Value (c .value-at .ensures))
+returns-2 c = answered-good _ _ Refused (good c) (ap Value (version c))
 
 pub rtc-calib-version-spec : {M : Type 1} → statement M
 rtc-calib-version-spec =
-    tie.close (tie.spec fields-refusal-requires returns value-at-requires returns-2)
+    tie.close (tie.spec fields-refusal-requires returns value-at-requires cast-t8 returns-2)

@@ -3,18 +3,21 @@
 use mathlib.Core.Path.{_≡_, sym, _∙_}
 use denote.Ref.{now}
 use borrow.Author.Needs.{needs}
+use Rattle.terms.specs.declared.chip.MapChip.the-variants.{Esp32}
 use Rattle.efuse.specs.Field.{eight}
-use Rattle.line.specs.Decode.{foundOf, decodedRecord, inputRefusal, decodeRefusal}
+use Rattle.efuse.specs.Decoding.{decodingRefusal}
+use Rattle.efuse.proofs.Decodings.{decoding-good}
+use Rattle.line.specs.Decode.{foundOf, decodedRecord, decodeRefusal}
 use Rattle.line.proofs.Sources.{vref-fits, source-in-bits}
-use Rattle.line.proofs.Decoding.{input-good, decode-input, decode-source, decode-refused, decode-record}
+use Rattle.line.proofs.Decoding.{decode-input, decode-source, decode-refused, decode-record}
 use Rattle.line.proofs.decode.decode.Statement.{statement}
 use Rattle.line.proofs.decode.decode.Tie as tie
 
 -- past the first test nothing handed in is refused
 accepted : (c : tie.Else1)
     → let a = c .before .before .before .before .args in
-    inputRefusal eight (now (a .dump)) (now (a .map)) (a .unit) (a .atten) ≡ 0
-accepted c = sym (c .before .input-refusal .ensures) ∙ c .if1 .left
+    decodingRefusal eight Esp32 (now (a .dump)) (now (a .map)) (a .unit) (a .atten) ≡ 0
+accepted c = sym (c .before .decoding-refusal .ensures) ∙ c .if1 .left
 
 -- so that the source's number is the decoding's
 number : (c : tie.After-source-refusal)
@@ -22,19 +25,19 @@ number : (c : tie.After-source-refusal)
     c .source-refusal .result ≡ decodeRefusal eight (now (a .dump)) (now (a .map)) (a .unit) (a .atten)
 number c = decode-source _ _ _ _ _ (accepted (c .before .before)) (c .before .source .ensures) (c .source-refusal .ensures)
 
-input-refusal-requires : tie.Need-input-refusal-requires
-input-refusal-requires c κs = search needs
+decoding-refusal-requires : tie.Need-decoding-refusal-requires
+decoding-refusal-requires c κs = search needs
 
 returns : tie.Need-returns
 returns c =
-    decode-refused _ _ _ _ _ (decode-input _ _ _ _ _ (c .before .input-refusal .ensures) (c .if1 .taken)) (c .if1 .taken)
+    decode-refused _ _ _ _ _ (decode-input _ _ _ _ _ (c .before .decoding-refusal .ensures) (c .if1 .taken)) (c .if1 .taken)
 
 source-requires : tie.Need-source-requires
-source-requires c κs = input-good _ _ _ _ _ (accepted c) .mapped
+source-requires c κs = decoding-good _ _ _ _ _ _ (accepted c) .0
 
 source-refusal-requires : tie.Need-source-refusal-requires
 source-refusal-requires c κs =
-    rw (c .source .ensures) (source-in-bits _ _ _ (input-good _ _ _ _ _ (accepted (c .before)) .mapped))
+    rw (c .source .ensures) (source-in-bits _ _ _ (decoding-good _ _ _ _ _ _ (accepted (c .before)) .0) _)
 
 returns-2 : tie.Need-returns-2
 returns-2 c = decode-refused _ _ _ _ _ (number (c .before)) (c .if2 .taken)
@@ -45,7 +48,7 @@ find-requires c κs = (sym (number (c .before)) ∙ c .if2 .left, c .before .bef
 record-from-requires : tie.Need-record-from-requires
 unfolding foundOf
 record-from-requires c κs =
-    rw (c .find .ensures) (vref-fits _ _ (input-good _ _ _ _ _ (accepted (c .before .before .before .before)) .mapped))
+    rw (c .find .ensures) (vref-fits _ _ _ (decoding-good _ _ _ _ _ _ (accepted (c .before .before .before .before)) .0))
 
 returns-3 : tie.Need-returns-3
 unfolding decodedRecord
@@ -57,7 +60,7 @@ pub decode-spec : {M : Type 1} → statement M
 decode-spec =
     tie.close
     (tie.spec
-    input-refusal-requires
+    decoding-refusal-requires
     returns
     source-requires
     source-refusal-requires
