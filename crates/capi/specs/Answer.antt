@@ -1,4 +1,5 @@
 -- What C is given of an answer: document 01's number, 0 where the call wasn't turned down, and the values, zeros beside a refusal.
+use mathlib.Core.Bool.{Bool, cond}
 use Prim.Native.Nat.{ℕ}
 use lib.IntN.{ℤ}
 use Rattle.terms.specs.declared.refusal.Outcome.{Outcome}
@@ -24,3 +25,7 @@ codeC number code = record { refusal = refusalC number; code = code }
 
 abbrev pub readingC : ℕ → ℤ → SkvReading
 readingC number value = record { refusal = refusalC number; value = value }
+
+-- a yes or no as a byte
+abbrev pub yesOrNo : Bool → ℕ
+yesOrNo answer = cond answer 1 0

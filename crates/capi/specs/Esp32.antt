@@ -1,6 +1,5 @@
 -- ESP32 line calibration, as C is handed and given it.
-use mathlib.Core.Bool.{Bool, not, cond}
-use Prim.Native.Nat.{ℕ}
+use mathlib.Core.Bool.{not}
 use lib.Dec.{eqb}
 use Rattle.line.specs.declared.record.LineRecord.{LineRecord}
 use Rattle.line.specs.declared.decode.Decoded.{Decoded}
@@ -10,11 +9,7 @@ use Rattle.line.specs.Convert.{numberOf as convertNumber, valueOf as convertVal
 use Rattle.capi.specs.declared.answer.SkvVoltage.{SkvVoltage}
 use Rattle.capi.specs.declared.esp32.SkvLineRecord.{SkvLineRecord}
 use Rattle.capi.specs.declared.esp32.SkvDecoded.{SkvDecoded}
-use Rattle.capi.specs.Answer.{refusalC, voltageC}
-
--- a yes or no as a byte
-abbrev pub yesOrNo : Bool → ℕ
-yesOrNo answer = cond answer 1 0
+use Rattle.capi.specs.Answer.{refusalC, voltageC, yesOrNo}
 
 -- the record that C handed in; a byte is yes where it isn't 0
 abbrev pub recordFrom : SkvLineRecord → LineRecord

@@ -14,8 +14,7 @@ use Rattle.capi.specs.declared.answer.SkvCode.{SkvCode}
 use Rattle.capi.specs.declared.answer.SkvVoltage.{SkvVoltage}
 use Rattle.capi.specs.declared.s2.SkvVersion.{SkvVersion}
 use Rattle.capi.specs.declared.s2.SkvFlashEncryption.{SkvFlashEncryption}
-use Rattle.capi.specs.Answer.{refusalC, voltageC, codeC, readingC}
-use Rattle.capi.specs.Esp32.{yesOrNo}
+use Rattle.capi.specs.Answer.{refusalC, voltageC, codeC, readingC, yesOrNo}
 
 abbrev pub versionC : Version → SkvVersion
 versionC version = record { refusal = refusalC (versionNumber version); version = versionValue version }

@@ -3,7 +3,7 @@ use terms::refusal;
 use terms::refusal::Outcome;
 use terms::unit::Millivolt;
 ghost use mathlib.Core.Path.{_≡_};
-ghost use Rattle.capi.specs.Answer.{refusalC, outcomeC, voltageC, codeC, readingC};
+ghost use Rattle.capi.specs.Answer.{refusalC, outcomeC, voltageC, codeC, readingC, yesOrNo};
 
 // Why a call was turned down; number 0 where it wasn't. It stands in every answer that may be a refusal, and is made in one place.
 #[repr(C)]
@@ -94,4 +94,11 @@ pub(crate) fn reading_c(number: u8, value: i32) -> SkvReading
         refusal: refusal_c(number),
         value,
     }
+}
+
+// 1 for yes, 0 for no.
+pub(crate) fn yes_or_no(answer: bool) -> u8
+    ensures { λ r. ⌜ r ≡ yesOrNo answer ⌝ }
+{
+    if answer { 1 } else { 0 }
 }

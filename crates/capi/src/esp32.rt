@@ -6,6 +6,7 @@ use crate::answer::SkvVoltage;
 use crate::answer::outcome_c;
 use crate::answer::refusal_c;
 use crate::answer::voltage_c;
+use crate::answer::yes_or_no;
 use line::convert;
 use line::convert::Converted;
 use line::decode;
@@ -25,7 +26,7 @@ ghost use Rattle.line.specs.Decode.{decodeOf};
 ghost use Rattle.line.specs.Convert.{convertOf};
 ghost use Rattle.line.specs.Fill.{fillRefusal, filled};
 ghost use Rattle.capi.specs.Answer.{outcomeC};
-ghost use Rattle.capi.specs.Esp32.{yesOrNo, recordFrom, recordC, decodedC, convertedC};
+ghost use Rattle.capi.specs.Esp32.{recordFrom, recordC, decodedC, convertedC};
 
 // A line record; the lookup is used where use_lut isn't 0.
 #[repr(C)]
@@ -56,13 +57,6 @@ fn record_from(cal: SkvLineRecord) -> LineRecord
         unit: cal.unit,
         use_lut: cal.use_lut != 0,
     }
-}
-
-// 1 for yes, 0 for no.
-pub(crate) fn yes_or_no(answer: bool) -> u8
-    ensures { λ r. ⌜ r ≡ yesOrNo answer ⌝ }
-{
-    if answer { 1 } else { 0 }
 }
 
 // What C is given of a record.

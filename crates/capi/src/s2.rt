@@ -7,7 +7,7 @@ use crate::answer::code_c;
 use crate::answer::reading_c;
 use crate::answer::refusal_c;
 use crate::answer::voltage_c;
-use crate::esp32::yes_or_no;
+use crate::answer::yes_or_no;
 use esp32s2::code;
 use esp32s2::code::Code;
 use esp32s2::encryption;

@@ -1,4 +1,5 @@
--- `capi::s2::s2_reading_c` meets its contract: in each arm the case is known. Assumes nothing.
+-- `capi::s2::s2_reading_c` meets its contract: in each arm the case is known, and a value that fits 32 bits is what they
+-- say. Assumes nothing.
 use mathlib.Core.Path.{_∙_}
 use mir.Syntax.{w32}
 use mir.ValLaws.{toZ-ofZ}
