@@ -1,0 +1,104 @@
+// What C is handed and given by value, where more than one part of the library has it.
+use terms::refusal;
+use terms::refusal::Outcome;
+use terms::unit::Millivolt;
+ghost use mathlib.Core.Path.{_≡_};
+ghost use Rattle.capi.specs.Answer.{refusalC, outcomeC, voltageC, codeC, readingC, yesOrNo};
+
+// Why a call was turned down; number 0 where it wasn't. It stands in every answer that may be a refusal, and is made in one place.
+#[repr(C)]
+pub struct SkvRefusal {
+    pub number: u8,
+}
+
+// A raw reading of the converter, and a voltage: two types, so that C's compiler keeps them apart too.
+#[repr(C)]
+pub struct SkvCount {
+    pub raw: u16,
+}
+
+#[repr(C)]
+pub struct SkvMillivolt {
+    pub mv: u16,
+}
+
+// How a call ended that has no values to give.
+#[repr(C)]
+pub struct SkvOutcome {
+    pub refusal: SkvRefusal,
+}
+
+// A voltage, a code or a reading, or why there is none.
+#[repr(C)]
+pub struct SkvVoltage {
+    pub refusal: SkvRefusal,
+    pub voltage: SkvMillivolt,
+}
+
+#[repr(C)]
+pub struct SkvCode {
+    pub refusal: SkvRefusal,
+    pub code: u16,
+}
+
+#[repr(C)]
+pub struct SkvReading {
+    pub refusal: SkvRefusal,
+    pub value: i32,
+}
+
+// The refusal with that number.
+pub(crate) fn refusal_c(number: u8) -> SkvRefusal
+    ensures { λ r. ⌜ r ≡ refusalC number ⌝ }
+{
+    SkvRefusal { number }
+}
+
+// What C is given of an outcome.
+pub(crate) fn outcome_c(outcome: Outcome) -> SkvOutcome
+    ensures { λ r. ⌜ r ≡ outcomeC outcome ⌝ }
+{
+    match outcome {
+        Outcome::Good => SkvOutcome {
+            refusal: refusal_c(refusal::NONE),
+        },
+        Outcome::Refused(why) => SkvOutcome {
+            refusal: refusal_c(why.number),
+        },
+    }
+}
+
+// An answer by its number and its value, which is 0 beside a refusal.
+pub(crate) fn voltage_c(number: u8, voltage: Millivolt) -> SkvVoltage
+    ensures { λ r. ⌜ r ≡ voltageC number voltage ⌝ }
+{
+    SkvVoltage {
+        refusal: refusal_c(number),
+        voltage: SkvMillivolt { mv: voltage.0 },
+    }
+}
+
+pub(crate) fn code_c(number: u8, code: u16) -> SkvCode
+    ensures { λ r. ⌜ r ≡ codeC number code ⌝ }
+{
+    SkvCode {
+        refusal: refusal_c(number),
+        code,
+    }
+}
+
+pub(crate) fn reading_c(number: u8, value: i32) -> SkvReading
+    ensures { λ r. ⌜ r ≡ readingC number value ⌝ }
+{
+    SkvReading {
+        refusal: refusal_c(number),
+        value,
+    }
+}
+
+// 1 for yes, 0 for no.
+pub(crate) fn yes_or_no(answer: bool) -> u8
+    ensures { λ r. ⌜ r ≡ yesOrNo answer ⌝ }
+{
+    if answer { 1 } else { 0 }
+}

@@ -1,0 +1,244 @@
+/* Suongkivat for C: raw ADC counts of ESP32 boards and their kin into millivolts.
+
+   Each call answers any input, and either gives its values or is turned down with a number of the table below; a refusal has zeros for
+   values, and leaves lent memory as it was. Number 0 is no refusal. The calls are proved to give exactly the answers of the definitions
+   in crates/, for whatever is handed in; what the proof takes for granted of a C caller is that each pointer has the length beside it
+   in readable memory (writable for bytes and out), and that no lent memory that a call writes overlaps any other that it is handed.
+   A length of 0 still takes a pointer that isn't null.
+
+   A dump is 88 words: blocks 0 to 10, eight words each. A map is records of 8 bytes: 48 bytes for ESP32, 16 for S2, 120 for C6. Units
+   are 0 and 1; attenuations 0, 1, 2, 3 are 0, 2.5, 6 and 11 dB. "the map's" below are 2, then for each record 3, 4, 5, 6. */
+#ifndef SUONGKIVAT_H
+#define SUONGKIVAT_H
+
+#include <stddef.h>
+#include <stdint.h>
+
+#ifdef __cplusplus
+extern "C" {
+#endif
+
+/* Why a call was turned down. */
+enum {
+    SKV_NONE = 0,
+    SKV_DUMP = 1,         /* the dump hasn't 88 words */
+    SKV_MAP = 2,          /* the map's length isn't its chip's */
+    SKV_MAP_RECORD = 3,   /* a map record's id or a zero byte is wrong */
+    SKV_BLOCK = 4,        /* block above 10 */
+    SKV_BIT_RANGE = 5,    /* bit start above 255, or start + count above 256 */
+    SKV_BIT_COUNT = 6,    /* bit count not as in the table */
+    SKV_UNIT = 7,         /* unit above 1 or attenuation above 3 */
+    SKV_RAW = 8,          /* raw above 4095 */
+    SKV_UNDERFLOW = 9,    /* two-point coefficient underflow */
+    SKV_LINE_RECORD = 10, /* line record outside its ranges */
+    SKV_STRETCH = 11,     /* a stretch whose first count plus length is above 4096 */
+    SKV_VERSION = 12,     /* S2 version not 2, or C6 version not 1 or 2 */
+    SKV_LINE_ANSWER = 13, /* line answer above 4095 given to the curve */
+    SKV_CURVE = 14,       /* no curve for that chip and unit */
+    SKV_BOARD = 15,       /* board above 1, or a sample's last byte above 7 */
+    SKV_LOG = 16          /* log ends inside a record */
+};
+
+/* The chips. Maps are those of ESP32, S2 and C6. */
+enum {
+    SKV_ESP32 = 0,
+    SKV_S2 = 1,
+    SKV_C3 = 2,
+    SKV_C5 = 3,
+    SKV_C6 = 4,
+    SKV_C61 = 5,
+    SKV_H2 = 6,
+    SKV_P4 = 7,
+    SKV_S3 = 8
+};
+
+typedef struct SkvRefusal {
+    uint8_t number;
+} SkvRefusal;
+
+/* A raw reading of the converter, and a voltage: two types, so that neither is taken for the other. */
+typedef struct SkvCount {
+    uint16_t raw;
+} SkvCount;
+
+typedef struct SkvMillivolt {
+    uint16_t mv;
+} SkvMillivolt;
+
+typedef struct SkvOutcome {
+    SkvRefusal refusal;
+} SkvOutcome;
+
+typedef struct SkvVoltage {
+    SkvRefusal refusal;
+    SkvMillivolt voltage;
+} SkvVoltage;
+
+typedef struct SkvCode {
+    SkvRefusal refusal;
+    uint16_t code;
+} SkvCode;
+
+typedef struct SkvReading {
+    SkvRefusal refusal;
+    int32_t value;
+} SkvReading;
+
+/* The bits bit_start to bit_start + bit_count - 1 of a block. */
+typedef struct SkvField {
+    uint8_t block;
+    uint16_t bit_start;
+    uint16_t bit_count;
+} SkvField;
+
+typedef struct SkvRead {
+    SkvRefusal refusal;
+    uint32_t value;
+} SkvRead;
+
+/* A part of a board's dump, 0 for field and 1 for reference: its first word, and how many there are. */
+typedef struct SkvView {
+    SkvRefusal refusal;
+    uint8_t board;
+    uint32_t first;
+    uint32_t words;
+} SkvView;
+
+/* What converting goes by: a up to 131071, b up to 4095, vref 995 to 1205, unit 0 or 1, and whether the lookup is used (0 for no). */
+typedef struct SkvLineRecord {
+    uint32_t coeff_a;
+    uint32_t coeff_b;
+    uint32_t vref;
+    uint8_t unit;
+    uint8_t use_lut;
+} SkvLineRecord;
+
+typedef struct SkvDecoded {
+    SkvRefusal refusal;
+    SkvLineRecord record;
+} SkvDecoded;
+
+typedef struct SkvVersion {
+    SkvRefusal refusal;
+    uint8_t version;
+} SkvVersion;
+
+/* on is 1 for yes, 0 for no. */
+typedef struct SkvFlashEncryption {
+    SkvRefusal refusal;
+    uint8_t on;
+} SkvFlashEncryption;
+
+/* A record of a log; last is unit x 4 + attenuation. */
+typedef struct SkvSample {
+    SkvCount raw;
+    uint8_t board;
+    uint8_t last;
+} SkvSample;
+
+/* What a log begins with: a sample where whole is 1; its end where whole is 0 and nothing is refused. */
+typedef struct SkvNext {
+    SkvRefusal refusal;
+    uint8_t whole;
+    SkvSample sample;
+} SkvNext;
+
+/* Fields. */
+
+/* A field's value at 8, 16 or 32 bits: its low bits. Refusals 1, 4, 5. */
+SkvRead skv_read_field_u8(const uint32_t *dump, size_t dump_len, SkvField field);
+SkvRead skv_read_field_u16(const uint32_t *dump, size_t dump_len, SkvField field);
+SkvRead skv_read_field_u32(const uint32_t *dump, size_t dump_len, SkvField field);
+
+/* Reads a field into the lent bytes, low first; all of them are written. Refusals 1, 4, 5. */
+SkvOutcome skv_read_field_le(const uint32_t *dump, size_t dump_len, SkvField field, uint8_t *bytes, size_t bytes_len);
+
+/* Where a block's words stand in the chosen board's dump, which alone is checked. Refusals 15, 1, 4. */
+SkvView skv_view(const uint32_t *field, size_t field_len, const uint32_t *reference, size_t reference_len, uint8_t board,
+                 uint8_t block);
+
+/* Maps. */
+
+/* Whether a map is its chip's. Refusals: the map's. No map is that of a chip other than ESP32, S2 and C6: 2. */
+SkvOutcome skv_check_map(uint8_t chip, const uint8_t *map, size_t map_len);
+
+/* The field of a map's record k, from 0 on; bytes past the map's end count as zero. No refusal. */
+SkvField skv_field_at(const uint8_t *map, size_t map_len, size_t k);
+
+/* ESP32 line calibration. */
+
+/* The line record of a unit at an attenuation. Refusals 1, 7, the map's, 9. */
+SkvDecoded skv_decode(const uint32_t *dump, size_t dump_len, const uint8_t *map, size_t map_len, uint8_t unit, uint8_t atten);
+
+/* Whether a record is inside its ranges. Refusal 10. */
+SkvOutcome skv_check_record(SkvLineRecord cal);
+
+/* The millivolts of a count, at most 12,285. Refusals 10, 8. */
+SkvVoltage skv_convert(SkvLineRecord cal, SkvCount count);
+
+/* Writes the millivolts of the counts from a first one on into the lent list, all of it. Refusals 10, 11. */
+SkvOutcome skv_fill(SkvLineRecord cal, SkvCount first, uint16_t *out, size_t out_len);
+
+/* The S2. */
+
+/* The calibration's version. Refusals 1, the map's. */
+SkvVersion skv_s2_version(const uint32_t *dump, size_t dump_len, const uint8_t *map, size_t map_len);
+
+/* A parameter's reading by a version, 0 where the two don't pair: low voltage, high voltage, initial code. Refusals 1, 7. */
+SkvReading skv_s2_reading_vlow(const uint32_t *dump, size_t dump_len, uint8_t version, uint8_t unit, uint8_t atten);
+SkvReading skv_s2_reading_vhigh(const uint32_t *dump, size_t dump_len, uint8_t version, uint8_t unit, uint8_t atten);
+SkvReading skv_s2_reading_vinit(const uint32_t *dump, size_t dump_len, uint8_t version, uint8_t unit, uint8_t atten);
+
+/* The same with the eFuse skipped. Refusal 7. */
+SkvReading skv_s2_skipped_vlow(uint8_t version, uint8_t unit, uint8_t atten);
+SkvReading skv_s2_skipped_vhigh(uint8_t version, uint8_t unit, uint8_t atten);
+SkvReading skv_s2_skipped_vinit(uint8_t version, uint8_t unit, uint8_t atten);
+
+/* The initial code, and the code at the reference voltage. Refusals 1, 7, the map's, 12. */
+SkvCode skv_s2_init_code(const uint32_t *dump, size_t dump_len, const uint8_t *map, size_t map_len, uint8_t unit, uint8_t atten);
+SkvCode skv_s2_cal_code(const uint32_t *dump, size_t dump_len, const uint8_t *map, size_t map_len, uint8_t unit, uint8_t atten);
+
+/* The reference voltage of an attenuation. Refusal 7. */
+SkvVoltage skv_s2_cal_mv(uint8_t unit, uint8_t atten);
+
+/* Whether flash encryption is on. Refusals 1, the map's. */
+SkvFlashEncryption skv_s2_flash_encryption(const uint32_t *dump, size_t dump_len, const uint8_t *map, size_t map_len);
+
+/* The C6. minor is the minor block version. */
+
+/* The calibration's version: 1 or 2, or 0 where there is none. No refusal. */
+uint8_t skv_c6_version(uint8_t minor);
+
+/* The initial code, and the code at the reference voltage. Refusals 1, 7, the map's, 12. */
+SkvCode skv_c6_init_code(const uint32_t *dump, size_t dump_len, const uint8_t *map, size_t map_len, uint8_t minor, uint8_t unit,
+                         uint8_t atten);
+SkvCode skv_c6_cal_code(const uint32_t *dump, size_t dump_len, const uint8_t *map, size_t map_len, uint8_t minor, uint8_t unit,
+                        uint8_t atten);
+
+/* A channel's compensation; channels 6 and up use channel 6. Refusals 1, 7, the map's. */
+SkvReading skv_c6_get_chan_compens(const uint32_t *dump, size_t dump_len, const uint8_t *map, size_t map_len, uint8_t unit,
+                                   uint8_t channel, uint8_t atten);
+
+/* The reference voltage of an attenuation. Refusal 7. */
+SkvVoltage skv_c6_cal_mv(uint8_t minor, uint8_t unit, uint8_t atten);
+
+/* Curves. */
+
+/* Corrects a line answer by the curve of its chip, unit and attenuation; minor is looked at for a C6 alone. Refusals 7, 14, 13; a number
+   that names no chip is 14. */
+SkvVoltage skv_correct(uint8_t chip, uint8_t minor, uint8_t unit, uint8_t atten, SkvMillivolt line);
+
+/* Logs. */
+
+/* The log's first sample, 4 bytes long, or its end. Refusal 16. */
+SkvNext skv_next_sample(const uint8_t *log, size_t log_len);
+
+/* A sample's millivolts, by the ESP32 map and the dump of its board. Refusals 15, those of decoding, 8. */
+SkvVoltage skv_sample(SkvSample sample, const uint32_t *field, size_t field_len, const uint32_t *reference, size_t reference_len,
+                      const uint8_t *map, size_t map_len);
+
+#ifdef __cplusplus
+}
+#endif
+
+#endif
