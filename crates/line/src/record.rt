@@ -24,7 +24,7 @@ pub struct LineRecord {
     pub use_lut: bool,
 }
 
-// The record of what was decoded for an attenuation. No other function makes one.
+// The record of what was decoded for an attenuation. No other function of the library makes one; C hands its own in.
 pub(crate) fn line_record(coeff_a: u32, coeff_b: u32, vref: u32, unit: u8, atten: u8) -> LineRecord
     ensures { λ r. ⌜ r ≡ recordOf «coeff_a» «coeff_b» vref unit atten ⌝ }
 {
@@ -37,7 +37,7 @@ pub(crate) fn line_record(coeff_a: u32, coeff_b: u32, vref: u32, unit: u8, atten
     }
 }
 
-// Whether converting by the record uses the lookup. No other function reads the record's yes or no.
+// Whether converting by the record uses the lookup. No other function that converts by a record reads its yes or no.
 pub(crate) fn uses_lookup(cal: LineRecord) -> bool
     ensures { λ r. ⌜ r ≡ usesLookup cal ⌝ }
 {
