@@ -10,12 +10,11 @@ use lib.IntN.{ℤ, pos, _+ℤ_, _*ℤ_}
 use lib.ListN.{length, getD, take, drop, List·getD-append, List·getD-map, length-append}
 use lib.Seq.{getD-append-add, drop-cons}
 use Rattle.terms.proofs.Flatten.{flatten-at, flatten-in}
-use Rattle.curve.specs.declared.flat.Part.{Part}
 use Rattle.curve.specs.Decimal.{Decimal, plus, nearest, doublings, scaled, magnitude, coefficient}
 use Rattle.curve.specs.Curves.{Table, byAtten}
 use Rattle.curve.specs.Table.{curveIn}
 use Rattle.curve.specs.Correct.{horner}
-use Rattle.curve.specs.Flat.{tables, numbered, curves, curveOf, decimals, coefficientAt, partsFrom, partAt}
+use Rattle.curve.specs.Flat.{tables, numbered, curves, curveOf, decimals, flat, Part, partsFrom, partAt}
 
 -- four curves a table
 by-fours : (ts : List Table) (t a : ℕ) → a < 4
@@ -50,6 +49,10 @@ all-decimals : length decimals ≡ 109
 unfolding decimals curves flatten
 all-decimals = refl
 
+pub all-coefficients : length flat ≡ 109
+unfolding flat decimals curves flatten
+all-coefficients = refl
+
 length-curve : (curve : List Decimal) → length (map coefficient curve) ≡ length curve
 length-curve [] = refl
 length-curve (d ∷ ds) = ap suc (length-curve ds)
@@ -77,15 +80,17 @@ module _ (k : ℕ) (h : k < 40) where
     unfolding decimals
     part-in = omega (arith, flatten-in curves k i here, part .0, all-decimals)
 
-    part-at : coefficientAt (partAt k .start + i) ≡ getD (curveOf k) i (pos 0)
-    unfolding decimals curveOf
+    part-at : getD flat (partAt k .start + i) (pos 0) ≡ getD (curveOf k) i (pos 0)
+    unfolding flat decimals curveOf
     part-at =
-        rw (part .0, flatten-at curves k i (plus 0 0) here, ← zero-decimal)
-        (sym (List·getD-map coefficient (getD curves k []) i (plus 0 0)))
+        rw (← zero-decimal)
+        (List·getD-map coefficient decimals (partAt k .start + i) (plus 0 0)
+        ∙ ap coefficient (rw (part .0) (flatten-at curves k i (plus 0 0) here))
+        ∙ sym (List·getD-map coefficient (getD curves k []) i (plus 0 0)))
 
     -- a step of Horner's rule takes it in
     pub part-step : (v : ℕ)
-        → horner (drop i (curveOf k)) v ≡ horner (drop (suc i) (curveOf k)) v *ℤ pos v +ℤ coefficientAt (partAt k .start + i)
+        → horner (drop i (curveOf k)) v ≡ horner (drop (suc i) (curveOf k)) v *ℤ pos v +ℤ getD flat (partAt k .start + i) (pos 0)
     unfolding horner
     part-step v =
         ap (λ (l : List ℤ). horner l v) (drop-cons (curveOf k) i (pos 0) within)

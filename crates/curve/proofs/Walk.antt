@@ -4,13 +4,12 @@ use mathlib.Core.Path.{_≡_, sym, _∙_, ap}
 use Prim.Native.Nat.{ℕ, suc, _+_, _-_, _≤_, _<_}
 use native.Mathlib.Omega.{arith}
 use lib.IntN.{ℤ, pos, _+ℤ_, _*ℤ_}
-use lib.ListN.{length, drop}
+use lib.ListN.{length, getD, drop}
 use lib.Seq.{drop-length}
 use mir.Syntax.{w64}
 use mir.Val.{SFits}
-use Rattle.curve.specs.declared.flat.Part.{Part}
 use Rattle.curve.specs.Correct.{horner}
-use Rattle.curve.specs.Flat.{curveOf, coefficientAt, partAt}
+use Rattle.curve.specs.Flat.{curveOf, flat, Part, partAt}
 use Rattle.curve.proofs.Parts.{part-len, part-in, part-step}
 use Rattle.curve.proofs.Sound.{curves-sound}
 
@@ -28,7 +27,7 @@ module _ (k v : ℕ) (known : k < 40) {part : Part} (is : part ≡ partAt k) whe
     pub walk-in : part .start + (i - 1) < 109
     walk-in = rw is (part-in k known (i - 1) (omega arith))
 
-    module _ {x c : ℤ} (so-far : x ≡ horner (drop i (curveOf k)) v) (next : c ≡ coefficientAt (part .start + (i - 1))) where
+    module _ {x c : ℤ} (so-far : x ≡ horner (drop i (curveOf k)) v) (next : c ≡ getD flat (part .start + (i - 1)) (pos 0)) where
       pub walk-more : x *ℤ pos v +ℤ c ≡ horner (drop (i - 1) (curveOf k)) v
       walk-more = sym (part-step k known (i - 1) (omega arith) v ∙ rw (back, ← is, ← next, ← so-far))
 

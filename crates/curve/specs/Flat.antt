@@ -5,8 +5,7 @@ use mathlib.Core.Option.{Option, none, some}
 use Prim.Native.Nat.{ℕ, _+_}
 use lib.IntN.{ℤ}
 use lib.ListN.{length, getD}
-use Rattle.curve.specs.declared.flat.Part.{Part}
-use Rattle.curve.specs.Decimal.{Decimal, plus, coefficient}
+use Rattle.curve.specs.Decimal.{Decimal, coefficient}
 use Rattle.curve.specs.Curves.{Table, byAtten}
 use Rattle.curve.specs.Curves.{c3Coeffs1, c5Coeffs1, c6Coeffs1, c61Coeffs1, c6Coeffs1V2, h2Coeffs1, p4Coeffs1, p4Coeffs2, s3Coeffs1, s3Coeffs2}
 
@@ -31,13 +30,21 @@ curveOf k = map coefficient (getD curves k [])
 unfoldable pub decimals : List Decimal
 decimals = flatten curves
 
-abbrev pub coefficientAt : ℕ → ℤ
-coefficientAt i = coefficient (getD decimals i (plus 0 0))
+-- and their coefficients
+unfoldable pub flat : List ℤ
+flat = map coefficient decimals
 
 -- where each curve starts among them, and how many it has; the first starts at n
+pub record Part : Type 0 where
+  pub start : ℕ
+  pub len : ℕ
+
+abbrev pub part : ℕ → ℕ → Part
+part start len = record { start = start; len = len }
+
 abbrev pub partsFrom : ℕ → List (List Decimal) → List Part
 partsFrom n [] = []
-partsFrom n (c ∷ cs) = record { start = n; len = length c } ∷ partsFrom (n + length c) cs
+partsFrom n (c ∷ cs) = part n (length c) ∷ partsFrom (n + length c) cs
 
 unfoldable pub partAt : ℕ → Part
-partAt k = getD (partsFrom 0 curves) k (record { start = 0; len = 0 })
+partAt k = getD (partsFrom 0 curves) k (part 0 0)

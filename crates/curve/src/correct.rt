@@ -1,6 +1,5 @@
 // The curve's correction of a line answer: `adc_val` of the crate's `AdcCalCurve`, calibration/curve.rs.
-use crate::flat::coeff;
-use crate::flat::part_of;
+use crate::polynomial::poly_at;
 use crate::table::LAST_TABLE;
 use crate::table::table_of;
 use terms::chip::Chip;
@@ -9,11 +8,8 @@ use terms::refusal::Refusal;
 use terms::unit::Millivolt;
 ghost use mathlib.Core.Path.{_≡_};
 ghost use Prim.Native.Nat.{_<_, _≤_};
-ghost use lib.IntN.{pos, _+ℤ_, _*ℤ_};
-ghost use mir.Syntax.{w64};
-ghost use mir.Val.{SFits};
-ghost use Rattle.curve.specs.Correct.{horner, errorOf, correctedOf, correctOf};
-ghost use Rattle.curve.specs.Flat.{numbered, curveOf};
+ghost use Rattle.curve.specs.Correct.{errorOf, correctedOf, correctOf};
+ghost use Rattle.curve.specs.Flat.{numbered};
 ghost use Rattle.curve.specs.Table.{curveIn};
 
 // What a coefficient of 1 stands as.
@@ -25,30 +21,6 @@ const LARGEST_LINE: u16 = 4095;
 pub enum Corrected {
     Answer(Millivolt),
     Refused(Refusal),
-}
-
-// One step of Horner's rule.
-fn step(poly: i64, v: u16, c: i64) -> i64
-    requires { ⌜ SFits w64 (poly *ℤ pos v) × SFits w64 (poly *ℤ pos v +ℤ c) ⌝ }
-    ensures { λ r. ⌜ r ≡ poly *ℤ pos v +ℤ c ⌝ }
-{
-    poly * (v as i64) + c
-}
-
-// The error polynomial of curve k at v.
-fn poly_at(k: u8, v: u16) -> i64
-    requires { ⌜ (k < 40) × (1 ≤ v) × (v ≤ 4095) ⌝ }
-    ensures { λ r. ⌜ r ≡ horner (curveOf k) v ⌝ }
-{
-    let part = part_of(k);
-    let start = part.start;
-    let mut i = part.len;
-    let mut poly: i64 = 0;
-    while 0 < i {
-        i -= 1;
-        poly = step(poly, v, coeff(start + i));
-    }
-    poly
 }
 
 // The error of a line answer v by a table at an attenuation, in millivolts.

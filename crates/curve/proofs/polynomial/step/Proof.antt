@@ -1,4 +1,4 @@
--- `curve::correct::step` meets its contract: what the machine reads back of each number is that number, since each fits.
+-- `curve::polynomial::step` meets its contract: what the machine reads back of each number is that number, since each fits.
 -- Assumes nothing.
 use mathlib.Core.Path.{_≡_}
 use native.Mathlib.Omega.{arith}
@@ -8,8 +8,8 @@ use mir.Val.{toZ, ofZ}
 use mir.ValLaws.{toZ-ofZ, toZ-pos}
 use borrow.Author.Needs.{needs}
 use Rattle.terms.proofs.Machine.{op-fits, op-back}
-use Rattle.curve.proofs.correct.step.Statement.{statement}
-use Rattle.curve.proofs.correct.step.Tie as tie
+use Rattle.curve.proofs.polynomial.step.Statement.{statement}
+use Rattle.curve.proofs.polynomial.step.Tie as tie
 
 cast-result : tie.Need-cast-result
 cast-result c = search needs
