@@ -13,10 +13,10 @@ use Rattle.capi.proofs.field.skv_read_field_le.Reads as skv-read-field-
 use Rattle.capi.proofs.field.skv_view.Reads as skv-view
 use Rattle.capi.proofs.map.skv_check_map.Reads as skv-check-map
 use Rattle.capi.proofs.map.skv_field_at.Reads as skv-field-at
-use Rattle.capi.proofs.esp32.skv_decode.Reads as skv-decode
-use Rattle.capi.proofs.esp32.skv_check_record.Reads as skv-check-record
-use Rattle.capi.proofs.esp32.skv_convert.Reads as skv-convert
-use Rattle.capi.proofs.esp32.skv_fill.Reads as skv-fill
+use Rattle.capi.proofs.lines.skv_decode.Reads as skv-decode
+use Rattle.capi.proofs.lines.skv_check_record.Reads as skv-check-record
+use Rattle.capi.proofs.lines.skv_convert.Reads as skv-convert
+use Rattle.capi.proofs.lines.skv_fill.Reads as skv-fill
 use Rattle.capi.proofs.s2.skv_s2_version.Reads as skv-s2-version
 use Rattle.capi.proofs.s2.skv_s2_reading_vlow.Reads as skv-s2-reading-vlow
 use Rattle.capi.proofs.s2.skv_s2_reading_vhigh.Reads as skv-s2-reading-vhigh

@@ -3,8 +3,8 @@
 mod answer;
 pub mod c6;
 pub mod correct;
-pub mod esp32;
 pub mod field;
+pub mod lines;
 pub mod log;
 pub mod map;
 pub mod s2;

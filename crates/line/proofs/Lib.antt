@@ -1,16 +1,11 @@
 pub mod Answers
-pub mod Codes
-pub mod Coefficients
 pub mod Conversions
-pub mod Decoding
-pub mod Exactly
 pub mod Fills
 pub mod Points
 pub mod Ramps
 pub mod Records
 pub mod Rising
 pub mod Segments
-pub mod Sources
 pub mod Stretches
 pub mod Sums
 pub mod Unique

@@ -6,20 +6,16 @@ use Prim.Native.Nat.{ℕ}
 use denote.Ref.{now}
 use Rattle.terms.specs.declared.refusal.Outcome.{Outcome}
 use Rattle.terms.proofs.OneAnswer.{OneAnswer}
+use Rattle.line.proofs.record.line_record.Reads as line-record
 use Rattle.line.proofs.record.check_record.Reads as check-record
-use Rattle.line.proofs.decode.decode.Reads as decode
-use Rattle.line.proofs.decode.number_of.Reads as number-of
 use Rattle.line.proofs.convert.convert.Reads as convert
 use Rattle.line.proofs.fill.fill.Reads as fill
 
+pub line-record-one : OneAnswer (λ κs z e. z) line-record.Post
+line-record-one κs a z z′ e e′ p q = p ∙ sym q
+
 pub check-record-one : OneAnswer (λ κs z e. z) check-record.Post
 check-record-one κs a z z′ e e′ p q = p ∙ sym q
-
-pub decode-one : OneAnswer (λ κs z e. z) decode.Post
-decode-one κs a z z′ e e′ p q = p ∙ sym q
-
-pub number-of-one : OneAnswer (λ κs z e. z) number-of.Post
-number-of-one κs a z z′ e e′ p q = p ∙ sym q
 
 pub convert-one : OneAnswer (λ κs z e. z) convert.Post
 convert-one κs a z z′ e e′ p q = p ∙ sym q

@@ -1,7 +1,4 @@
-pub mod Characterize
-pub mod Code
 pub mod Convert
-pub mod Decode
 pub mod Fill
 pub mod Lookup
 pub mod Record

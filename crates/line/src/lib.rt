@@ -1,8 +1,5 @@
-// ESP32 line calibration: the line record, and what it is decoded from, converts and fills.
-mod characterize;
-mod code;
+// Line calibration: the line record, and what it converts and fills.
 pub mod convert;
-pub mod decode;
 pub mod fill;
 mod lookup;
 mod ramp;

@@ -25,7 +25,7 @@ pub struct LineRecord {
 }
 
 // The record of what was decoded for an attenuation. No other function of the library makes one; C hands its own in.
-pub(crate) fn line_record(coeff_a: u32, coeff_b: u32, vref: u32, unit: u8, atten: u8) -> LineRecord
+pub fn line_record(coeff_a: u32, coeff_b: u32, vref: u32, unit: u8, atten: u8) -> LineRecord
     ensures { λ r. ⌜ r ≡ recordOf «coeff_a» «coeff_b» vref unit atten ⌝ }
 {
     LineRecord {

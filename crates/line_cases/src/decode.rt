@@ -1,6 +1,6 @@
 // data/decode: dumps with their maps, and the line records that are decoded of them.
-use line::decode;
-use line::decode::Decoded;
+use esp32::decode;
+use esp32::decode::Decoded;
 use line::record::LineRecord;
 use replay::bytes;
 

@@ -6,9 +6,9 @@ use Rattle.terms.specs.Sign.{signMagnitude}
 use Rattle.efuse.specs.Field.{bitsOf, placeRefusal, fieldBits}
 use Rattle.efuse.specs.Map.{countRefusal, recordRefusal as mapRecordRefusal, mapRefusal}
 use Rattle.efuse.specs.Decoding.{decodingRefusal, valueAt}
-use Rattle.line.specs.Code.{vrefOf, twoPointCode, pointOf, lowOf, highOf}
-use Rattle.line.specs.Characterize.{tpScale, tpOffset, vrefScale, vrefOffset, twoPointA, topOf, twoPointB, topRefusal, coefficientsOf, sourceRefusal}
-use Rattle.line.specs.Decode.{twoPointUsed, sourceOf, foundOf, decodedRecord, decodeRefusal, decodeOf}
+use Rattle.esp32.specs.Code.{vrefOf, twoPointCode, pointOf, lowOf, highOf}
+use Rattle.esp32.specs.Characterize.{tpScale, tpOffset, vrefScale, vrefOffset, twoPointA, topOf, twoPointB, topRefusal, coefficientsOf, sourceRefusal}
+use Rattle.esp32.specs.Decode.{twoPointUsed, sourceOf, foundOf, decodedRecord, decodeRefusal, decodeOf}
 use Rattle.line.specs.Record.{usesLookup, recordRefusal}
 use Rattle.line.specs.Lookup.{lowAt, highAt, lookupNumerator, lookupVoltage}
 use Rattle.line.specs.Convert.{lineVoltage, blendOf, beyondLine, answerAt, convertRefusal, convertOf}

@@ -8,10 +8,10 @@ use Rattle.terms.specs.declared.chip.Chip.{Chip}
 use Rattle.terms.specs.declared.chip.Chip.the-variants.{C3, S3}
 use Rattle.efuse.specs.Field.{eight}
 use Rattle.line.specs.declared.record.LineRecord.{LineRecord}
-use Rattle.line.specs.Code.{vrefOf, twoPointCode, lowOf, highOf}
-use Rattle.line.specs.Characterize.{topOf}
-use Rattle.line.specs.Decode.{decodeOf}
-use Rattle.line.specs.Decode.{numberOf as numberDecoded, valueOf as recordDecoded}
+use Rattle.esp32.specs.Code.{vrefOf, twoPointCode, lowOf, highOf}
+use Rattle.esp32.specs.Characterize.{topOf}
+use Rattle.esp32.specs.Decode.{decodeOf}
+use Rattle.esp32.specs.Decode.{numberOf as numberDecoded, valueOf as recordDecoded}
 use Rattle.line.specs.Convert.{convertOf}
 use Rattle.line.specs.Convert.{valueOf as millivoltsOf}
 use Rattle.esp32s2.specs.Reading.{readingOf}

@@ -1,0 +1,72 @@
+-- Laws of decoding: which case its refusal is, what is known where nothing is refused, which case a decoding is, and that a
+-- decoded record passes the record check. Assumes nothing.
+use mathlib.Core.Path.{_≡_, refl, sym, _∙_, ap}
+use mathlib.Core.List.{List}
+use Prim.Native.Nat.{ℕ, _≤_}
+use Rattle.terms.specs.declared.chip.MapChip.the-variants.{Esp32}
+use Rattle.terms.proofs.Answers.{Paper}
+use Rattle.terms.proofs.Refusals.{orElse-none, orElse-some, byNumber-good, byNumber-refused}
+use Rattle.efuse.specs.Decoding.{fieldsRefusal, decodingRefusal, valueAt}
+use Rattle.efuse.proofs.Decodings.{decoding-good}
+use Rattle.line.specs.declared.record.LineRecord.{LineRecord}
+use Rattle.esp32.specs.declared.characterize.Source.{Source}
+use Rattle.esp32.specs.declared.decode.Decoded.the-variants.{Record, Refused}
+use Rattle.line.specs.Record.{recordRefusal}
+use Rattle.esp32.specs.Code.{vrefOf}
+use Rattle.esp32.specs.Characterize.{sourceRefusal}
+use Rattle.esp32.specs.Decode.{sourceOf, foundOf, decodedRecord, decodeRefusal, numberOf, valueOf, noRecord, decodeOf}
+use Rattle.line.proofs.Records.{record-good}
+use Rattle.esp32.proofs.Codes.{vref-range}
+use Rattle.esp32.proofs.Coefficients.{line-ranges}
+use Rattle.esp32.proofs.Sources.{vref-fits}
+
+-- the number and the record of a decoding are document 01's
+pub decoded-paper : Paper numberOf valueOf noRecord Record Refused
+decoded-paper =
+    record { good-number = λ v. refl; good-value = λ v. refl; refused-number = λ r. refl; refused-value = λ r. refl }
+
+module _ (words : ℕ → ℕ) (dump map : List ℕ) (unit atten : ℕ) where
+  abbrev input : ℕ
+  input = decodingRefusal words Esp32 dump map unit atten
+
+  abbrev decoding : ℕ
+  decoding = decodeRefusal words dump map unit atten
+
+  -- which case a decoding's refusal is
+  pub decode-input : {n : ℕ} → n ≡ input → (n ≡ 0 → ⊥) → n ≡ decoding
+  unfolding decodeRefusal
+  decode-input e h = rw (← e) (sym (orElse-some _ _ h))
+
+  pub decode-source : input ≡ 0 → {source : Source} → source ≡ sourceOf dump map unit
+      → {n : ℕ} → n ≡ sourceRefusal unit source → n ≡ decoding
+  unfolding decodeRefusal
+  decode-source e s h = h ∙ rw (s, e)
+
+  -- what is known where nothing is refused
+  pub decode-good : decoding ≡ 0
+      → (fieldsRefusal words Esp32 dump map ≡ 0) × ((unit ≤ 1) × (atten ≤ 3)) × (sourceRefusal unit (sourceOf dump map unit) ≡ 0)
+  unfolding decodeRefusal
+  decode-good e =
+      let p = orElse-none input _ e in
+      let good = decoding-good words Esp32 dump map unit atten (p .0) in
+      (good .0, good .1, p .1)
+
+  -- which case a decoding is, as a `return` asks it
+  pub decode-refused : {n : ℕ} → n ≡ decoding → (n ≡ 0 → ⊥) → Refused (record { number = n }) ≡ decodeOf words dump map unit atten
+  unfolding decodeOf
+  decode-refused e h = rw (← e) (sym (byNumber-refused _ _ _ h))
+
+  pub decode-record : {r : LineRecord} → decoding ≡ 0 → r ≡ decodedRecord dump map unit atten
+      → Record r ≡ decodeOf words dump map unit atten
+  unfolding decodeOf
+  decode-record e r = sym (byNumber-good _ _ _ e ∙ ap Record (sym r))
+
+  -- what is decoded passes the record check
+  pub decoded-passes : decoding ≡ 0 → recordRefusal (decodedRecord dump map unit atten) ≡ 0
+  unfolding decodedRecord foundOf
+  decoded-passes e =
+      let good = decode-good e in
+      let u = good .1 .0 in
+      let vref = vref-range (vref-fits words dump map (good .0)) in
+      let line = line-ranges unit atten (vrefOf (valueAt Esp32 dump map 1)) (sourceOf dump map unit) u (good .1 .1) (vref .1) in
+      record-good _ (record { a = line .0; b = line .1; vref-least = vref .0; vref-most = vref .1; unit = u })

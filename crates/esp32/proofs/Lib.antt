@@ -1,0 +1,6 @@
+pub mod Codes
+pub mod Coefficients
+pub mod Decoding
+pub mod Exactly
+pub mod Sources
+pub mod Unique

@@ -1,0 +1,70 @@
+-- `esp32::decode` meets its contract: at each `return` the refusals so far say which case of the definition holds.
+-- Assumes nothing.
+use mathlib.Core.Path.{_≡_, sym, _∙_}
+use denote.Ref.{now}
+use borrow.Author.Needs.{needs}
+use Rattle.terms.specs.declared.chip.MapChip.the-variants.{Esp32}
+use Rattle.efuse.specs.Field.{eight}
+use Rattle.efuse.specs.Decoding.{decodingRefusal}
+use Rattle.efuse.proofs.Decodings.{decoding-good}
+use Rattle.esp32.specs.Decode.{foundOf, decodedRecord, decodeRefusal}
+use Rattle.esp32.proofs.Sources.{vref-fits, source-in-bits}
+use Rattle.esp32.proofs.Decoding.{decode-input, decode-source, decode-refused, decode-record}
+use Rattle.esp32.proofs.decode.decode.Statement.{statement}
+use Rattle.esp32.proofs.decode.decode.Tie as tie
+
+-- past the first test nothing handed in is refused
+accepted : (c : tie.Else1)
+    → let a = c .before .before .before .before .args in
+    decodingRefusal eight Esp32 (now (a .dump)) (now (a .map)) (a .unit) (a .atten) ≡ 0
+accepted c = sym (c .before .decoding-refusal .ensures) ∙ c .if1 .left
+
+-- so that the source's number is the decoding's
+number : (c : tie.After-source-refusal)
+    → let a = c .before .before .before .before .before .before .args in
+    c .source-refusal .result ≡ decodeRefusal eight (now (a .dump)) (now (a .map)) (a .unit) (a .atten)
+number c = decode-source _ _ _ _ _ (accepted (c .before .before)) (c .before .source .ensures) (c .source-refusal .ensures)
+
+decoding-refusal-requires : tie.Need-decoding-refusal-requires
+decoding-refusal-requires c κs = search needs
+
+returns : tie.Need-returns
+returns c =
+    decode-refused _ _ _ _ _ (decode-input _ _ _ _ _ (c .before .decoding-refusal .ensures) (c .if1 .taken)) (c .if1 .taken)
+
+source-requires : tie.Need-source-requires
+source-requires c κs = decoding-good _ _ _ _ _ _ (accepted c) .0
+
+source-refusal-requires : tie.Need-source-refusal-requires
+source-refusal-requires c κs =
+    rw (c .source .ensures) (source-in-bits _ _ _ (decoding-good _ _ _ _ _ _ (accepted (c .before)) .0) _)
+
+returns-2 : tie.Need-returns-2
+returns-2 c = decode-refused _ _ _ _ _ (number (c .before)) (c .if2 .taken)
+
+find-requires : tie.Need-find-requires
+find-requires c κs = (sym (number (c .before)) ∙ c .if2 .left, c .before .before .source .ensures)
+
+record-from-requires : tie.Need-record-from-requires
+unfolding foundOf
+record-from-requires c κs =
+    rw (c .find .ensures) (vref-fits _ _ _ (decoding-good _ _ _ _ _ _ (accepted (c .before .before .before .before)) .0))
+
+returns-3 : tie.Need-returns-3
+unfolding decodedRecord
+returns-3 c =
+    let p = c .before .before in
+    decode-record _ _ _ _ _ (sym (number (p .before)) ∙ p .if2 .left) (c .record-from .ensures ∙ rw (c .before .find .ensures))
+
+pub decode-spec : {M : Type 1} → statement M
+decode-spec =
+    tie.close
+    (tie.spec
+    decoding-refusal-requires
+    returns
+    source-requires
+    source-refusal-requires
+    returns-2
+    find-requires
+    record-from-requires
+    returns-3)

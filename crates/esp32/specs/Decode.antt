@@ -1,0 +1,78 @@
+-- Document 01, "ESP32 line rules", and the order of "Numbers given when a call is turned down" for decoding: "1, 7, 2, then map
+-- records first to last with 3, 4, 5, 6 within each, then .. 9". A dump is the list of its words, a map that of its bytes.
+-- In the crate: `new_cal` and `check_efuse_tp` of calibration/line/esp32.rs, which cites ESP-IDF's
+-- components/esp_adc/esp32/adc_cali_line_fitting.c, line 155.
+use mathlib.Core.Bool.{Bool, false, not, cond, _&&_}
+use mathlib.Core.List.{List}
+use Prim.Native.Nat.{ℕ}
+use lib.Dec.{eqb}
+use Rattle.terms.specs.declared.chip.MapChip.the-variants.{Esp32}
+use Rattle.terms.specs.Refuse.{orElse, answered}
+use Rattle.efuse.specs.Decoding.{decodingRefusal, valueAt}
+use Rattle.line.specs.declared.record.LineRecord.{LineRecord}
+use Rattle.esp32.specs.declared.characterize.Source.{Source}
+use Rattle.esp32.specs.declared.characterize.Source.the-variants.{TwoPoint, Vref}
+use Rattle.esp32.specs.declared.decode.Found.{Found}
+use Rattle.esp32.specs.declared.decode.Decoded.{Decoded}
+use Rattle.esp32.specs.declared.decode.Decoded.the-variants.{Record, Refused}
+use Rattle.line.specs.Record.{recordOf}
+use Rattle.esp32.specs.Code.{byUnit, vrefOf}
+use Rattle.esp32.specs.Characterize.{coefficientsOf, sourceRefusal}
+
+-- id 2 is BLK3_PART_RESERVE, 3 and 4 are ADC1_TP_LOW and ADC2_TP_LOW, 5 and 6 ADC1_TP_HIGH and ADC2_TP_HIGH.
+-- "Two-point is used exactly if the reserve bit is 1 and all four codes' raw bits are nonzero"
+unfoldable pub twoPointUsed : List ℕ → List ℕ → Bool
+twoPointUsed dump map =
+    eqb (valueAt Esp32 dump map 2) 1
+    && not (eqb (valueAt Esp32 dump map 3) 0)
+    && not (eqb (valueAt Esp32 dump map 4) 0)
+    && not (eqb (valueAt Esp32 dump map 5) 0)
+    && not (eqb (valueAt Esp32 dump map 6) 0)
+
+-- the raw bits of a unit's low and high codes
+abbrev pub lowBits : List ℕ → List ℕ → ℕ → ℕ
+lowBits dump map unit = byUnit unit (valueAt Esp32 dump map 3) (valueAt Esp32 dump map 4)
+
+abbrev pub highBits : List ℕ → List ℕ → ℕ → ℕ
+highBits dump map unit = byUnit unit (valueAt Esp32 dump map 5) (valueAt Esp32 dump map 6)
+
+-- "else Vref"
+unfoldable pub sourceOf : List ℕ → List ℕ → ℕ → Source
+sourceOf dump map unit = cond (twoPointUsed dump map) (TwoPoint (lowBits dump map unit) (highBits dump map unit)) Vref
+
+-- what a record is made from: where a and b come from, the raw bits of ADC_VREF, which is id 1, and a and b
+unfoldable pub foundOf : List ℕ → List ℕ → ℕ → ℕ → Found
+foundOf dump map unit atten =
+    let source : Source = sourceOf dump map unit in
+    let vref : ℕ = valueAt Esp32 dump map 1 in
+    record { source = source; vref = vref; line = coefficientsOf unit atten (vrefOf vref) source }
+
+-- the record made from it; its Vref is that of id 1, whatever a and b come from
+abbrev pub recordFrom : Found → ℕ → ℕ → LineRecord
+recordFrom found unit atten = recordOf (found .line .a) (found .line .b) (vrefOf (found .vref)) unit atten
+
+unfoldable pub decodedRecord : List ℕ → List ℕ → ℕ → ℕ → LineRecord
+decodedRecord dump map unit atten = recordFrom (foundOf dump map unit atten) unit atten
+
+-- 1, 7 and those of the map, then 9
+unfoldable pub decodeRefusal : (ℕ → ℕ) → List ℕ → List ℕ → ℕ → ℕ → ℕ
+decodeRefusal words dump map unit atten =
+    orElse (decodingRefusal words Esp32 dump map unit atten)
+    (sourceRefusal unit (sourceOf dump map unit))
+
+-- document 01's number and record of a decoding, zeros beside a refusal
+abbrev pub numberOf : Decoded → ℕ
+numberOf (Record r) = 0
+numberOf (Refused r) = r .number
+
+abbrev pub noRecord : LineRecord
+noRecord = record { «coeff_a» = 0; «coeff_b» = 0; vref = 0; unit = 0; «use_lut» = false }
+
+abbrev pub valueOf : Decoded → LineRecord
+valueOf (Record r) = r
+valueOf (Refused r) = noRecord
+
+-- "Decoding answers a record or one number"
+unfoldable pub decodeOf : (ℕ → ℕ) → List ℕ → List ℕ → ℕ → ℕ → Decoded
+decodeOf words dump map unit atten =
+    answered (decodeRefusal words dump map unit atten) (Record (decodedRecord dump map unit atten)) Refused

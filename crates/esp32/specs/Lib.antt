@@ -1,0 +1,3 @@
+pub mod Characterize
+pub mod Code
+pub mod Decode
