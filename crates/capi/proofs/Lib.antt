@@ -1,3 +1,4 @@
 pub mod Chips
 pub mod Places
+pub mod Records
 pub mod Unique
