@@ -7,6 +7,11 @@ use crate::{Dump, document};
 /// A value, or the number that document 01 gives where a call is turned down.
 pub type Answer<T> = Result<T, u8>;
 
+/// The number of an answer, 0 for a good one.
+pub fn number<T>(answer: &Answer<T>) -> u8 {
+    answer.as_ref().err().copied().unwrap_or(0)
+}
+
 fn refuse(wrong: bool, number: u8) -> Answer<()> {
     if wrong { Err(number) } else { Ok(()) }
 }

@@ -1,7 +1,7 @@
 //! Dumps of zeros, ones and noise, and dumps that hold wanted values at places that a map then names.
-use oracle::Dump;
-use oracle::fields::Field;
-use oracle::noise::Noise;
+use crate::Dump;
+use crate::fields::Field;
+use crate::noise::Noise;
 
 pub const ZEROS: Dump = [0; 88];
 pub const ONES: Dump = [u32::MAX; 88];
