@@ -19,7 +19,7 @@ pub mod records;
 pub mod rules;
 pub mod s2;
 
-pub use call::Panic;
+pub use call::{Panic, quietly};
 
 /// The words of blocks 0 to 10.
 pub type Dump = [u32; 88];

@@ -4,13 +4,13 @@ use std::fs;
 use std::path::Path;
 
 use oracle::codes::Codes;
-use oracle::desk::{DUMP_FILE, SAMPLE, output};
+use oracle::desk::{DUMP_FILE, output};
 use oracle::dumps::{Builder, ONES, ZEROS};
 use oracle::fields::{Field, field_of};
 use oracle::maps::{any_map, of_length, spoil};
 use oracle::noise::Noise;
 use oracle::plain::{dump_and_map, record};
-use oracle::rules::{MapChip, RECORD};
+use oracle::rules::{MapChip, RECORD, SAMPLE};
 
 use crate::logs;
 
