@@ -1,12 +1,12 @@
 //! ESP32 line calibration: filling, at once and in stretches, and stretches that are turned down.
-use oracle::answers;
 use oracle::noise::Noise;
+use oracle::{Panic, answers, quietly};
 
 use crate::exports::{SkvLineRecord, SkvOutcome};
 use crate::input::Input;
 use crate::library::Library;
 use crate::records;
-use crate::tally::{Compared, Lent, Tally, outcome};
+use crate::tally::{Compared, Difference, Lent, Tally, outcome};
 
 /// Numbers of a table.
 const TABLE: usize = 4096;
@@ -51,11 +51,18 @@ fn fill_in(library: &Library, tally: &mut Tally, record: SkvLineRecord, crates: 
     Ok(())
 }
 
+/// The crate's whole table. Where the oracle stops, that is the difference.
+fn crates_table(record: SkvLineRecord) -> Result<Vec<u16>, Box<Difference>> {
+    let table = quietly(|| answers::fill(records::crates(record), 0, TABLE).expect("a good record"));
+    let difference = |wanted| Difference { call: "fill", input: input(record, 0, TABLE), ours: "not asked".into(), wanted };
+    table.map_err(|Panic(said)| Box::new(difference(said)))
+}
+
 /// Every record's table at once, in halves, count by count for some, and in stretches.
 pub fn fill(library: &Library, tally: &mut Tally, noise: &mut Noise) -> Compared {
     let one_by_one: Vec<Stretch> = (0..TABLE).map(|count| (count, count + 1)).collect();
     for (k, record) in records::all(noise).into_iter().enumerate() {
-        let crates = answers::fill(records::crates(record), 0, TABLE).expect("a good record");
+        let crates = crates_table(record)?;
         fill_in(library, tally, record, &crates, &[(0, TABLE)])?;
         fill_in(library, tally, record, &crates, &[(0, 2880), (2880, TABLE)])?;
         fill_in(library, tally, record, &crates, &covering(noise))?;

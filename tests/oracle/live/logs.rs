@@ -1,6 +1,5 @@
 //! Sample logs: the next sample, and a sample's answer.
 use oracle::codes::Codes;
-use oracle::dumps::Builder;
 use oracle::noise::Noise;
 use oracle::rules::{MapChip, number};
 use oracle::{Dump, answers};
@@ -56,12 +55,12 @@ pub fn sample(library: &Library, tally: &mut Tally, (field, reference, map): Boa
 /// Counts where an answer changes its way, and past the last.
 const COUNTS: [u16; 10] = [0, 1, 2879, 2912, 2943, 2945, 4094, 4095, 4096, 65535];
 
-/// A board of noise, by Vref or by two points, under the plain map.
+/// A board of noise, by Vref or by two points, under the plain map: a code is in the low bits of its word, nine at most.
 fn board(noise: &mut Noise, reserve: u32) -> Dump {
-    let mut dump = Builder::new(noise.dump());
-    let codes = Codes::any(noise, reserve);
-    (0..).zip(codes.bits()).for_each(|(k, bits)| dump.dump[k] = dump.dump[k] & !0x1FF | bits);
-    dump.dump
+    let mut dump = noise.dump();
+    let codes = Codes::any(noise, reserve).bits();
+    dump.iter_mut().zip(codes).for_each(|(word, bits)| *word = *word & !0x1FF | bits);
+    dump
 }
 
 /// Every board and last byte on two boards; any sample on any boards, with faults.

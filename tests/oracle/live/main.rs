@@ -39,12 +39,14 @@ fn apart(number: u64) -> String {
 
 /// A row of the table.
 fn row(name: &str, tally: &Tally, took: Duration) -> String {
-    format!("{name:24}{:>14}{:>14}{:>9.1} s", apart(tally.compared), apart(tally.refused), took.as_secs_f64())
+    let numbers: Vec<String> = tally.numbers.iter().map(u8::to_string).collect();
+    let (compared, refused, took) = (apart(tally.compared), apart(tally.refused), took.as_secs_f64());
+    format!("{name:22}{compared:>12}{refused:>12}{took:>7.1} s  {}", numbers.join(" "))
 }
 
 /// All parts on a library: a line as each begins, and a table at the end.
 fn compare(library: &Library, seed: u64) -> ExitCode {
-    let mut table = vec![format!("{:24}{:>14}{:>14}{:>11}", "part", "compared", "refusals", "time")];
+    let mut table = vec![format!("{:22}{:>12}{:>12}{:>9}  {}", "part", "compared", "refusals", "time", "their numbers")];
     let (mut all, started) = (Tally::default(), Instant::now());
     for (k, part) in PARTS.iter().enumerate() {
         println!("{} of {}: {}", k + 1, PARTS.len(), part.name);
@@ -56,6 +58,7 @@ fn compare(library: &Library, seed: u64) -> ExitCode {
         table.push(row(part.name, &tally, started.elapsed()));
         all.compared += tally.compared;
         all.refused += tally.refused;
+        all.numbers.extend(tally.numbers);
     }
     table.push(row("all", &all, started.elapsed()));
     println!("\n{}\nno difference", table.join("\n"));

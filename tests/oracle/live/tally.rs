@@ -1,4 +1,5 @@
 //! Comparing an answer of the library with the one that document 01 and the crate give, and counting.
+use std::collections::BTreeSet;
 use std::fmt::{self, Debug, Display, Formatter};
 use std::ops::Range;
 
@@ -28,40 +29,35 @@ pub type Compared = Result<(), Box<Difference>>;
 
 /// An answer as it is compared.
 pub trait Seen: PartialEq + Debug {
-    fn refused(&self) -> bool;
+    /// The number of its refusal, 0 for none.
+    fn number(&self) -> u8;
 }
-
-/// Answers that have a number.
-macro_rules! numbered {
-    ($($answer:ty),*) => {
-        $(impl Seen for $answer {
-            fn refused(&self) -> bool {
-                self.number != 0
-            }
-        })*
-    };
-}
-
-numbered!(SkvOutcome, SkvView, SkvNext);
 
 impl<T: PartialEq + Debug> Seen for Told<T> {
-    fn refused(&self) -> bool {
-        self.number != 0
+    fn number(&self) -> u8 {
+        self.number
     }
 }
 
-/// Answers of calls that refuse nothing.
-macro_rules! unrefused {
-    ($($answer:ty),*) => {
+macro_rules! seen {
+    ($($answer:ty: $number:expr,)*) => {
         $(impl Seen for $answer {
-            fn refused(&self) -> bool {
-                false
+            fn number(&self) -> u8 {
+                let number: fn(&$answer) -> u8 = $number;
+                number(self)
             }
         })*
     };
 }
 
-unrefused!(u8, SkvField);
+seen! {
+    SkvOutcome: |answer| answer.number,
+    SkvView: |answer| answer.number,
+    SkvNext: |answer| answer.number,
+    // Calls that refuse nothing: the field of a map's record, the C6's version.
+    SkvField: |_| 0,
+    u8: |_| 0,
+}
 
 /// An answer with all of the lent memory after the call.
 #[derive(PartialEq)]
@@ -74,8 +70,8 @@ impl<T: PartialEq + fmt::LowerHex> Debug for Lent<T> {
 }
 
 impl<T: PartialEq + fmt::LowerHex> Seen for Lent<T> {
-    fn refused(&self) -> bool {
-        self.0.refused()
+    fn number(&self) -> u8 {
+        self.0.number
     }
 }
 
@@ -88,11 +84,12 @@ pub fn outcome<T>(answer: &Answer<T>) -> SkvOutcome {
     SkvOutcome { number: number(answer) }
 }
 
-/// How many answers were compared, and how many of them are refusals.
+/// How many answers were compared, how many of them are refusals, and with which numbers.
 #[derive(Default)]
 pub struct Tally {
     pub compared: u64,
     pub refused: u64,
+    pub numbers: BTreeSet<u8>,
 }
 
 impl Tally {
@@ -107,7 +104,10 @@ impl Tally {
         let wanted = match quietly(wanted) {
             Ok(wanted) if wanted == ours => {
                 self.compared += 1;
-                self.refused += u64::from(wanted.refused());
+                if wanted.number() != 0 {
+                    self.refused += 1;
+                    self.numbers.insert(wanted.number());
+                }
                 return Ok(());
             }
             Ok(wanted) => format!("{wanted:?}"),
@@ -128,8 +128,8 @@ impl Tally {
         if ours == wanted {
             return Ok(());
         }
-        let place = ours.iter().zip(wanted).position(|(ours, wanted)| ours != wanted);
-        let told = |table: &[u16]| format!("place {place:?} of the table has {:?}", place.and_then(|place| table.get(place)));
+        let place = (0..wanted.len()).find(|k| ours[*k] != wanted[*k]).expect("tables of one length");
+        let told = |table: &[u16]| format!("the table has {} at {place}", table[place]);
         Err(Box::new(Difference { call, input: input(), ours: told(ours), wanted: told(wanted) }))
     }
 }

@@ -189,7 +189,7 @@ fn bits(dump: &[u32], map: &[u8], k: usize) -> u32 {
     (PROVED.read_field_u32)(dump, (PROVED.field_at)(map, k)).value
 }
 
-/// The dump with other bits in a map's field, where the call isn't refused for its dump or map.
+/// The dump with other bits in a field of an ESP32 map, where the call isn't refused for its dump or map.
 fn with_bits(dump: &[u32], map: &[u8], k: usize, bits: u32) -> Vec<u32> {
     let Ok(whole) = dump.try_into() else { return dump.to_vec() };
     if (PROVED.check_map)(0, map).number != 0 {
