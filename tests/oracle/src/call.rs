@@ -13,23 +13,28 @@ static TURN: Mutex<()> = Mutex::new(());
 static QUIET_HOOK: Once = Once::new();
 
 thread_local! {
-    static CALLING: Cell<bool> = const { Cell::new(false) };
+    static QUIET: Cell<bool> = const { Cell::new(false) };
 }
 
 /// Does the work that calls the crate.
 pub fn caught<T>(work: impl FnOnce() -> T) -> Result<T, Panic> {
+    let _turn = TURN.lock().unwrap_or_else(PoisonError::into_inner);
+    quietly(work)
+}
+
+/// Does the work; a panic is told to the caller alone.
+pub fn quietly<T>(work: impl FnOnce() -> T) -> Result<T, Panic> {
     QUIET_HOOK.call_once(|| {
         let usual = take_hook();
         set_hook(Box::new(move |info| {
-            if !CALLING.get() {
+            if !QUIET.get() {
                 usual(info);
             }
         }));
     });
-    let _turn = TURN.lock().unwrap_or_else(PoisonError::into_inner);
-    CALLING.set(true);
+    let outer = QUIET.replace(true);
     let done = catch_unwind(AssertUnwindSafe(work));
-    CALLING.set(false);
+    QUIET.set(outer);
     done.map_err(|said| {
         let text = said.downcast_ref::<&str>().map(|text| text.to_string());
         Panic(text.or_else(|| said.downcast_ref::<String>().cloned()).unwrap_or_default())

@@ -15,6 +15,14 @@ pub enum Chip {
     S3,
 }
 
+impl Chip {
+    /// The chips in the order of their numbers, with the minor version that a C6 has.
+    pub fn numbered(number: u8, minor: u8) -> Option<Self> {
+        let chips = [Self::Esp32, Self::S2, Self::C3, Self::C5, Self::C6(minor), Self::C61, Self::H2, Self::P4, Self::S3];
+        chips.get(usize::from(number)).copied()
+    }
+}
+
 /// A curve of a chip's unit at a line answer.
 macro_rules! corrected {
     ($chip:ident, $unit:ident, $atten:expr, $line:expr) => {{

@@ -7,6 +7,11 @@ use crate::{Dump, document};
 /// A value, or the number that document 01 gives where a call is turned down.
 pub type Answer<T> = Result<T, u8>;
 
+/// The number of an answer, 0 for a good one.
+pub fn number<T>(answer: &Answer<T>) -> u8 {
+    answer.as_ref().err().copied().unwrap_or(0)
+}
+
 fn refuse(wrong: bool, number: u8) -> Answer<()> {
     if wrong { Err(number) } else { Ok(()) }
 }
@@ -24,8 +29,9 @@ pub enum MapChip {
     C6,
 }
 
-/// Bytes of a map's record.
+/// Bytes of a map's record, and of a log's.
 pub const RECORD: usize = 8;
+pub const SAMPLE: usize = 4;
 
 impl MapChip {
     /// The chip's ids with the least and the largest bit count of each: document 01's table.
@@ -124,7 +130,18 @@ pub fn curve(chip: Chip, unit: u8) -> Answer<()> {
     refuse(!has_curve, 14)
 }
 
+/// 15: board above 1.
+pub fn board(board: u8) -> Answer<()> {
+    refuse(board > 1, 15)
+}
+
 /// 15: board above 1, or a sample's last byte above 7.
 pub fn sample(board: u8, last: u8) -> Answer<()> {
-    refuse(board > 1 || last > 7, 15)
+    self::board(board)?;
+    refuse(last > 7, 15)
+}
+
+/// 16: log ends inside a record.
+pub fn log(bytes: usize) -> Answer<()> {
+    refuse((1..SAMPLE).contains(&bytes), 16)
 }

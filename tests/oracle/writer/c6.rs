@@ -1,12 +1,12 @@
 //! The C6: every 10-bit calibration code, init codes of every width, channel codes, every channel and every minor version.
 use oracle::answers;
+use oracle::dumps::{Builder, any_words, lent};
+use oracle::maps::{any_map, of_length, spoil};
 use oracle::noise::Noise;
 use oracle::plain::record;
-use oracle::rules::{Answer, MapChip, RECORD};
+use oracle::rules::{Answer, MapChip, RECORD, number};
 
-use crate::dumps::{Builder, any_words, lent};
-use crate::list::{List, number};
-use crate::maps::{any_map, of_length, spoil};
+use crate::list::List;
 
 const VERSION: u8 = 0;
 const INIT_CODE: u8 = 1;

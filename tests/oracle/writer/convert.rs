@@ -1,10 +1,11 @@
 //! ESP32 line calibration: converting and filling.
-use oracle::answers;
+use oracle::codes::{Codes, UNITS};
 use oracle::line::Record;
 use oracle::noise::Noise;
+use oracle::rules::number;
+use oracle::{answers, records};
 
-use crate::decode::{Codes, UNITS};
-use crate::list::{List, number};
+use crate::list::List;
 
 /// Records that decoding gives: Vref codes at the ends and between, and two-point.
 fn decoded_records(noise: &mut Noise) -> Vec<Record> {
@@ -18,31 +19,6 @@ fn decoded_records(noise: &mut Noise) -> Vec<Record> {
             }
         }
     }
-    records
-}
-
-/// Records made by hand, up to the ends of their ranges.
-fn made_records(noise: &mut Noise) -> Vec<Record> {
-    let mut records = Vec::new();
-    for coeff_a in [0, 1, 32768, 65535, 65536, 131070, 131071] {
-        for coeff_b in [0, 1, 4095] {
-            for use_lut in [false, true] {
-                let vref = noise.pick(&[995, 996, 999, 1000, 1001, 1100, 1199, 1200, 1201, 1204, 1205]);
-                records.push(Record { coeff_a, coeff_b, vref, unit: noise.pick(&UNITS), use_lut });
-            }
-        }
-    }
-    records
-}
-
-/// A good record with one part outside its range.
-fn outside_records() -> Vec<Record> {
-    let good = Record { coeff_a: 131071, coeff_b: 4095, vref: 1205, unit: 1, use_lut: true };
-    let mut records = Vec::new();
-    records.extend([131072, u32::MAX].map(|coeff_a| Record { coeff_a, ..good }));
-    records.extend([4096, u32::MAX].map(|coeff_b| Record { coeff_b, ..good }));
-    records.extend([0, 994, 1206, 65536 + 1100, u32::MAX].map(|vref| Record { vref, ..good }));
-    records.extend([2, 255].map(|unit| Record { unit, ..good }));
     records
 }
 
@@ -61,7 +37,7 @@ pub fn convert() -> List {
         put_record(&mut list, record).u16(raw).u8(number(&answer)).u8(0).u16(answer.unwrap_or(0));
     };
     let mut records = decoded_records(noise);
-    records.extend(made_records(noise));
+    records.extend(records::made(noise));
     for record in records {
         turns.iter().for_each(|raw| one(record, *raw));
         (0..6).for_each(|_| one(record, noise.pick(&joints)));
@@ -69,7 +45,7 @@ pub fn convert() -> List {
         (0..3).for_each(|_| one(record, noise.within(2880, 2944) as u16));
         one(record, noise.within(4096, 65535) as u16);
     }
-    for record in outside_records() {
+    for record in records::outside() {
         [0, 2880, 4095, 4096].into_iter().for_each(|raw| one(record, raw));
     }
     list
@@ -122,7 +98,7 @@ pub fn fill() -> List {
 pub fn stretches() -> List {
     let mut list = List::new("line_cases", "stretches", 24);
     let noise = &mut Noise::new(7);
-    let mut records = made_records(noise);
+    let mut records = records::made(noise);
     records.extend(decoded_records(noise));
     let mut one = |record, first: u16, n: u16| {
         let answer = answers::fill(record, first, n.into());
@@ -134,7 +110,7 @@ pub fn stretches() -> List {
     let blend = [(2879, 1), (2879, 3), (2880, 64), (2880, 65), (2943, 3), (2944, 1), (2945, 1), (2816, 200)];
     for (first, n) in ends.into_iter().chain(past).chain(blend) {
         (0..6).for_each(|_| one(noise.pick(&records), first, n));
-        one(noise.pick(&outside_records()), first, n);
+        one(noise.pick(&records::outside()), first, n);
     }
     for _ in 0..80 {
         let first = noise.below(4097);

@@ -1,23 +1,12 @@
 //! Curve correction: whole tables as steps from answer to answer, and single answers with the refusals.
 use oracle::answers;
 use oracle::curve::Chip;
+use oracle::rules::number;
 
-use crate::list::{List, number};
+use crate::list::List;
 
-/// The chips in the order of their numbers; a C6 with its minor version.
-fn chip(index: u8, minor: u8) -> Chip {
-    match index {
-        0 => Chip::Esp32,
-        1 => Chip::S2,
-        2 => Chip::C3,
-        3 => Chip::C5,
-        4 => Chip::C6(minor),
-        5 => Chip::C61,
-        6 => Chip::H2,
-        7 => Chip::P4,
-        8 => Chip::S3,
-        _ => unreachable!("nine chips"),
-    }
+fn chip(number: u8, minor: u8) -> Chip {
+    Chip::numbered(number, minor).expect("nine chips")
 }
 
 /// Every curve over line answers 0 to 4095.

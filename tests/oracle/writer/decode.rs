@@ -1,66 +1,16 @@
 //! ESP32 line calibration: decoding.
 use oracle::answers;
+use oracle::codes::{ATTENS, Codes, UNITS};
+use oracle::dumps::{Builder, any_words, lent};
 use oracle::line::Record;
+use oracle::maps::{of_length, spoil};
 use oracle::noise::Noise;
-use oracle::plain::{dump_and_map, record};
-use oracle::rules::{Answer, MapChip, RECORD};
+use oracle::rules::{RECORD, number};
 
-use crate::dumps::{Builder, any_words, lent};
-use crate::list::{List, number};
-use crate::maps::{of_length, spoil};
-
-/// The raw bits of ids 1 to 6.
-#[derive(Clone, Copy)]
-pub struct Codes {
-    vref: u32,
-    reserve: u32,
-    low: [u32; 2],
-    high: [u32; 2],
-}
-
-impl Codes {
-    /// Any codes with every two-point code nonzero, and the reserve bit as asked.
-    pub fn any(noise: &mut Noise, reserve: u32) -> Self {
-        let mut two = |largest| [noise.within(1, largest), noise.within(1, largest)];
-        let (low, high) = (two(0x7F), two(0x1FF));
-        Self { vref: noise.below(32), reserve, low, high }
-    }
-
-    /// The same with a unit's two-point codes.
-    pub fn with(mut self, unit: u8, low: u32, high: u32) -> Self {
-        self.low[usize::from(unit)] = low;
-        self.high[usize::from(unit)] = high;
-        self
-    }
-
-    /// The same with a Vref code.
-    pub fn with_vref(self, vref: u32) -> Self {
-        Self { vref, ..self }
-    }
-
-    /// In the order of the ids.
-    pub fn bits(self) -> [u32; 6] {
-        [self.vref, self.reserve, self.low[0], self.low[1], self.high[0], self.high[1]]
-    }
-
-    /// A map whose fields hold the codes.
-    fn place(self, noise: &mut Noise, dump: &mut Builder) -> Vec<u8> {
-        let rows = MapChip::Esp32.rows().into_iter().zip(self.bits());
-        rows.flat_map(|((id, _, count), bits)| record(id, dump.holding(noise, bits, count.into()))).collect()
-    }
-
-    /// What is decoded of them.
-    pub fn decoded(self, unit: u8, atten: u8) -> Answer<Record> {
-        let (dump, map) = dump_and_map(MapChip::Esp32, &self.bits());
-        answers::decode(&dump, &map, unit, atten)
-    }
-}
+use crate::list::List;
 
 /// Codes, unit and attenuation of a decoding.
 type Case = (Codes, u8, u8);
-
-pub const UNITS: [u8; 2] = [0, 1];
-const ATTENS: [u8; 4] = [0, 1, 2, 3];
 
 /// Every Vref code with every unit and attenuation.
 fn vref_cases(noise: &mut Noise) -> Vec<Case> {

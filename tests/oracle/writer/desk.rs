@@ -3,16 +3,16 @@ use std::collections::BTreeSet;
 use std::fs;
 use std::path::Path;
 
-use oracle::desk::{DUMP_FILE, SAMPLE, output};
+use oracle::codes::Codes;
+use oracle::desk::{DUMP_FILE, output};
+use oracle::dumps::{Builder, ONES, ZEROS};
 use oracle::fields::{Field, field_of};
+use oracle::maps::{any_map, of_length, spoil};
 use oracle::noise::Noise;
 use oracle::plain::{dump_and_map, record};
-use oracle::rules::{MapChip, RECORD};
+use oracle::rules::{MapChip, RECORD, SAMPLE};
 
-use crate::decode::Codes;
-use crate::dumps::{Builder, ONES, ZEROS};
 use crate::logs;
-use crate::maps::{any_map, of_length, spoil};
 
 /// A file's bytes; none where it is missing.
 type File = Option<Vec<u8>>;

@@ -1,10 +1,11 @@
 //! Field reading: every class of start and count on dumps of zeros, ones and noise.
 use oracle::answers;
+use oracle::dumps::{ONES, ZEROS, any_words, lent};
 use oracle::fields::{Field, MOST_BYTES};
 use oracle::noise::Noise;
+use oracle::rules::number;
 
-use crate::dumps::{ONES, ZEROS, any_words, lent};
-use crate::list::{List, number};
+use crate::list::List;
 
 /// Starts and counts at and beside the edges of bytes, words and the block, each start with each count.
 fn classes() -> Vec<(u16, u16)> {

@@ -55,8 +55,3 @@ impl List {
         self.bytes.len()
     }
 }
-
-/// The number of an answer, 0 for a good one.
-pub fn number<T>(answer: &Result<T, u8>) -> u8 {
-    answer.as_ref().err().copied().unwrap_or(0)
-}

@@ -5,7 +5,6 @@ mod convert;
 mod curve;
 mod decode;
 mod desk;
-mod dumps;
 mod fields;
 mod list;
 mod logs;

@@ -1,12 +1,12 @@
 //! The S2: every tag on zeros, ones and noise; every version, unit, attenuation and parameter; the codes; the crypt count.
 use oracle::answers;
+use oracle::dumps::{Builder, ONES, ZEROS, any_words, lent};
+use oracle::maps::{any_map, of_length, spoil};
 use oracle::noise::Noise;
 use oracle::plain::record;
-use oracle::rules::{Answer, MapChip, RECORD};
+use oracle::rules::{Answer, MapChip, RECORD, number};
 
-use crate::dumps::{Builder, ONES, ZEROS, any_words, lent};
-use crate::list::{List, number};
-use crate::maps::{any_map, of_length, spoil};
+use crate::list::List;
 
 const VERSION: u8 = 0;
 const FLASH_ENCRYPTION: u8 = 1;

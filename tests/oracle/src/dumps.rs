@@ -1,10 +1,15 @@
 //! Dumps of zeros, ones and noise, and dumps that hold wanted values at places that a map then names.
-use oracle::Dump;
-use oracle::fields::Field;
-use oracle::noise::Noise;
+use crate::Dump;
+use crate::fields::Field;
+use crate::noise::Noise;
 
 pub const ZEROS: Dump = [0; 88];
 pub const ONES: Dump = [u32::MAX; 88];
+
+/// The words of bytes, each low byte first.
+pub fn words_of(bytes: &[u8]) -> Vec<u32> {
+    bytes.chunks_exact(4).map(|word| u32::from_le_bytes(word.try_into().expect("four bytes"))).collect()
+}
 
 /// Words that a case may lend: the dump's, and zeros behind them.
 pub const MOST_WORDS: u8 = 96;

@@ -1,0 +1,206 @@
+//! Seeded faults: the proved library with one call wrapped. Each names the part that has to catch it.
+mod c6;
+mod curve;
+mod decode;
+mod fields;
+mod fill;
+mod line;
+mod logs;
+mod maps;
+mod s2;
+
+use oracle::dumps::Builder;
+use oracle::fields::field_of;
+
+use crate::exports::{SkvOutcome, Told};
+use crate::library::{Library, PROVED};
+
+pub struct Fault {
+    pub name: &'static str,
+    pub part: &'static str,
+    pub library: Library,
+}
+
+macro_rules! faults {
+    ($($part:literal { $($name:literal: $call:ident = $wrapped:expr,)* })*) => {
+        pub fn all() -> Vec<Fault> {
+            vec![$($(Fault { part: $part, name: $name, library: Library { $call: $wrapped, ..PROVED } },)*)*]
+        }
+    };
+}
+
+faults! {
+    "fields" {
+        "the cut to 8 bits is left out": read_field_u8 = PROVED.read_field_u16,
+        "a field may end a bit past its block": read_field_u32 = fields::a_bit_past,
+        "an empty field may start at 256": read_field_u16 = fields::empty_at_256,
+        "5 is asked for before 4": read_field_u16 = fields::place_before_block,
+        "a field stops at its word's edge": read_field_u32 = fields::stops_at_word,
+        "a longer dump is taken": read_field_u8 = fields::longer_dump,
+        "a refusal carries a value": read_field_u8 = fields::refusal_with_value,
+    }
+    "fields into bytes" {
+        "one lent byte is written on a refusal": read_field_le = fields::written_on_refusal,
+        "bytes past the field's end stay as they were": read_field_le = fields::rest_stays,
+    }
+    "views" {
+        "the reference board's view is the field board's": view = fields::always_field,
+        "4 is asked for before 1": view = fields::block_before_dump,
+        "both dumps are checked": view = fields::both_checked,
+    }
+    "maps" {
+        "the last zero byte isn't looked at": check_map = maps::zero_byte_passed_over,
+        "6 is asked for before 5": check_map = maps::count_before_place,
+        "the last record isn't looked at": check_map = maps::last_record_passed_over,
+        "a C3 has the S2's map": check_map = maps::map_of_c3,
+    }
+    "fields of maps" {
+        "the start's high byte is left out": field_at = maps::low_byte_of_start,
+        "a torn record is empty": field_at = maps::torn_is_empty,
+    }
+    "decoding by Vref" {
+        "Vref is read as two's complement": decode = decode::vref_in_twos_complement,
+        "the lookup is set at 6 dB too": decode = decode::lookup_at_6_db,
+        "the other unit's codes may be zero": decode = decode::other_unit_passed_over,
+    }
+    "decoding by two points" {
+        "the codes are plain two's complement": decode = decode::plain_twos_complement,
+        "9 is given from t 850 on": decode = decode::refused_at_850,
+        "an underflow is answered": decode = decode::underflow_answered,
+        "a refused record has its vref": decode = decode::refusal_with_vref,
+    }
+    "decoding with faults" {
+        "7 is asked for before 1": decode = decode::unit_before_dump,
+        "2 is asked for before 7": decode = decode::map_before_unit,
+        "a longer dump is taken": decode = decode::longer_dump,
+    }
+    "line records" {
+        "vref 1206 is taken": check_record = line::vref_1206,
+        "unit 2 is taken": check_record = line::unit_2,
+    }
+    "converting" {
+        "the line's half is left out": convert = line::half_left_out,
+        "one entry of the lookup is higher": convert = line::higher_entry,
+        "the other unit's lookup is used": convert = line::other_units_lookup,
+        "the blend begins at 2882": convert = line::later_blend,
+        "raw 4096 is taken": convert = line::raw_4096,
+        "8 is asked for before 10": convert = line::raw_before_record,
+        "only 1 is a yes for the lookup": convert = line::one_is_yes,
+    }
+    "filling" {
+        "a stretch's first count is left out of the sum": fill = fill::from_0,
+        "a stretch's first number isn't written": fill = fill::first_not_written,
+        "nothing is written": fill = fill::nothing_written,
+        "the first number is repeated": fill = fill::first_repeated,
+        "the line goes on through the blend": fill = fill::line_through_blend,
+    }
+    "stretches at the ends" {
+        "one lent number is written on a refusal": fill = fill::written_on_refusal,
+        "11 is given from 4096 on": fill = fill::refused_at_4096,
+        "the sum wraps at 16 bits": fill = fill::wrapping_sum,
+        "11 is asked for before 10": fill = fill::stretch_before_record,
+    }
+    "S2 readings" {
+        "tag 17 depends on 18": s2_reading_vhigh = s2::other_dependency,
+        "tag 1's field is two's complement": s2_reading_vlow = s2::tag_1_in_twos_complement,
+        "tag 24 lacks its last bit": s2_reading_vhigh = s2::without_last_bit,
+        "version 3 is read as 2 with the eFuse skipped": s2_skipped_vinit = s2::version_3,
+        "6 dB is read as 11 dB with the eFuse skipped": s2_skipped_vlow = s2::other_attenuation,
+        "unit 2 is taken with the eFuse skipped": s2_skipped_vhigh = s2::unit_2,
+        "7 is asked for before 1": s2_reading_vinit = s2::unit_before_dump,
+    }
+    "S2 codes" {
+        "encryption is on for any count but 0": s2_flash_encryption = s2::any_count,
+        "version 1 has an init code": s2_init_code = s2::init_code_of_version_1,
+        "the version loses its highest bit": s2_version = s2::version_of_7_bits,
+        "2.5 dB has 850 mV": s2_cal_mv = s2::other_millivolts,
+    }
+    "S2 with faults" {
+        "2 is asked for before 7": s2_cal_code = s2::map_before_unit,
+    }
+    "C6 codes" {
+        "6 dB of version 2 has the others' base": c6_cal_code = c6::others_base,
+        "an init code loses its 15th bit": c6_init_code = c6::init_code_of_14_bits,
+        "channels above 6 use channel 0": c6_get_chan_compens = c6::channel_0_above_6,
+        "a channel code is two's complement": c6_get_chan_compens = c6::in_twos_complement,
+    }
+    "C6 versions" {
+        "minor 3 has version 3": c6_version = c6::version_3,
+        "unit 2 has millivolts": c6_cal_mv = c6::millivolts_of_unit_2,
+    }
+    "C6 with faults" {
+        "12 is asked for before 2": c6_init_code = c6::version_before_map,
+        "7 is asked for before 1": c6_get_chan_compens = c6::unit_before_dump,
+    }
+    "curves" {
+        "the error is floored and not cut": correct = curve::floored,
+        "one coefficient is larger": correct = curve::larger_coefficient,
+        "a C6 of minor 3 takes the first table": correct = curve::first_table,
+        "a C3's unit 1 has no curve": correct = curve::no_second_unit,
+        "line answer 4096 is taken": correct = curve::line_4096,
+    }
+    "curves with faults" {
+        "14 is asked for before 7": correct = curve::curve_before_unit,
+        "13 is asked for before 14": correct = curve::line_before_curve,
+        "a number that names no chip is 7": correct = curve::no_chip,
+    }
+    "samples" {
+        "the reference board is read from the field dump": sample = logs::field_dump,
+        "8 is asked for before 15": sample = logs::raw_before_board,
+        "last byte 8 is taken": sample = logs::last_byte_8,
+    }
+    "logs" {
+        "a torn end is the end": next_sample = logs::torn_is_end,
+        "raw's high byte comes first": next_sample = logs::high_byte_first,
+        "five bytes are torn": next_sample = logs::whole_records_alone,
+    }
+}
+
+/// The library with the fault of that part and name.
+pub fn named(name: &str) -> Option<Library> {
+    let (part, name) = name.split_once(':')?;
+    let all = all().into_iter();
+    all.filter(|fault| fault.part == part && fault.name == name.trim()).map(|fault| fault.library).next()
+}
+
+fn good<T>(value: T) -> Told<T> {
+    Told { number: 0, value }
+}
+
+fn refused<T: Default>(number: u8) -> Told<T> {
+    Told { number, value: T::default() }
+}
+
+/// The answer without the first of two refusals, where it was refused with that: what a call says that asks for the other one first.
+fn swapped<T>(told: Told<T>, first: u8, second: u8, without_first: impl FnOnce() -> Told<T>) -> Told<T> {
+    if told.number != first {
+        return told;
+    }
+    let other = without_first();
+    if other.number == second { other } else { told }
+}
+
+fn outcome(number: u8) -> SkvOutcome {
+    SkvOutcome { number }
+}
+
+/// The bits of a map's field; 0 where there is no such field.
+fn bits(dump: &[u32], map: &[u8], k: usize) -> u32 {
+    (PROVED.read_field_u32)(dump, (PROVED.field_at)(map, k)).value
+}
+
+/// The dump with other bits in a field of an ESP32 map, where the call isn't refused for its dump or map.
+fn with_bits(dump: &[u32], map: &[u8], k: usize, bits: u32) -> Vec<u32> {
+    let Ok(whole) = dump.try_into() else { return dump.to_vec() };
+    if (PROVED.check_map)(0, map).number != 0 {
+        return dump.to_vec();
+    }
+    let mut dump = Builder::new(whole);
+    dump.write(field_of(map, k), bits);
+    dump.dump.to_vec()
+}
+
+/// Plain two's complement over a width.
+fn twos_complement(bits: u32, width: u32) -> i32 {
+    if bits >> (width - 1) & 1 == 1 { bits as i32 - (1 << width) } else { bits as i32 }
+}

@@ -1,0 +1,128 @@
+//! Fields at 8, 16 and 32 bits and into bytes; the view of a block.
+use oracle::fields::{Field, MOST_BYTES};
+use oracle::noise::Noise;
+use oracle::rules::{Answer, number};
+use oracle::{Dump, answers, dumps};
+
+use crate::exports::{SkvField, SkvView, Told};
+use crate::input::Input;
+use crate::library::Library;
+use crate::tally::{Compared, Lent, Tally, outcome, told};
+
+/// Every start and count up to the first past a block's end, and some far ones.
+fn starts_and_counts() -> impl Iterator<Item = (u16, u16)> {
+    let numbers = || (0..=257).chain([258, 511, 512, 32768, 65535]);
+    numbers().flat_map(move |start| numbers().map(move |count| (start, count)))
+}
+
+/// Blocks 0 to 10, the first that there isn't, and the last number.
+fn blocks() -> impl Iterator<Item = u8> {
+    (0..=11).chain([255])
+}
+
+fn any_dumps(noise: &mut Noise) -> [Dump; 6] {
+    [dumps::ZEROS, dumps::ONES, noise.dump(), noise.dump(), noise.dump(), noise.dump()]
+}
+
+/// Numbers of words that no dump has.
+pub const NO_DUMP: [u8; 5] = [0, 1, 87, 89, dumps::MOST_WORDS];
+
+pub fn c_field(field: Field) -> SkvField {
+    SkvField { block: field.block, bit_start: field.bit_start, bit_count: field.bit_count }
+}
+
+fn input(dump: &[u32], field: Field) -> Input {
+    let input = Input::default().number("block", field.block).number("bit start", field.bit_start);
+    input.number("bit count", field.bit_count).dump(dump)
+}
+
+/// The readings by width: the call's name, ours, and document 01's by the crate.
+type Width = (&'static str, fn(&[u32], SkvField) -> Told<u32>, fn(&[u32], Field) -> Answer<u32>);
+
+fn widths(library: &Library) -> [Width; 3] {
+    [
+        ("read_field_u8", library.read_field_u8, |dump, field| answers::read_field_u8(dump, field).map(u32::from)),
+        ("read_field_u16", library.read_field_u16, |dump, field| answers::read_field_u16(dump, field).map(u32::from)),
+        ("read_field_u32", library.read_field_u32, answers::read_field_u32),
+    ]
+}
+
+/// A field at every width.
+pub fn read(library: &Library, tally: &mut Tally, dump: &[u32], field: Field) -> Compared {
+    widths(library).into_iter().try_for_each(|(call, ours, wanted)| {
+        tally.same(call, || input(dump, field), ours(dump, c_field(field)), || told(wanted(dump, field)))
+    })
+}
+
+pub fn fields(library: &Library, tally: &mut Tally, noise: &mut Noise) -> Compared {
+    for dump in any_dumps(noise) {
+        for block in blocks() {
+            for (bit_start, bit_count) in starts_and_counts() {
+                read(library, tally, &dump, Field { block, bit_start, bit_count })?;
+            }
+        }
+        for (words, block) in NO_DUMP.into_iter().flat_map(|words| [0, 10, 11].map(|block| (words, block))) {
+            for (bit_start, bit_count) in [(0, 0), (0, 1), (255, 1), (255, 2), (256, 0)] {
+                read(library, tally, &dumps::lent(&dump, words), Field { block, bit_start, bit_count })?;
+            }
+        }
+    }
+    Ok(())
+}
+
+/// What lent memory holds before a call.
+const BEFORE: u8 = 0xA5;
+
+/// Lends the first n of some more bytes, and compares them all after the call.
+pub fn into_bytes(library: &Library, tally: &mut Tally, dump: &[u32], field: Field, n: usize) -> Compared {
+    let behind = 8;
+    let mut bytes = vec![BEFORE; n + behind];
+    let ours = (library.read_field_le)(dump, c_field(field), &mut bytes[..n]);
+    let wanted = || {
+        let answer = answers::read_field_le(dump, field, n);
+        let mut after = vec![BEFORE; n + behind];
+        answer.iter().for_each(|read| after[..n].copy_from_slice(read));
+        Lent(outcome(&answer), after)
+    };
+    tally.same("read_field_le", || input(dump, field).number("bytes lent", n as u64), Lent(ours, bytes), wanted)
+}
+
+pub fn bytes(library: &Library, tally: &mut Tally, noise: &mut Noise) -> Compared {
+    for dump in any_dumps(noise) {
+        for n in [0, 1, 2, 3, 4, 5, 8, 16, 31, 32, 33, MOST_BYTES] {
+            for block in [0, 5, 10, 11] {
+                for (bit_start, bit_count) in starts_and_counts() {
+                    into_bytes(library, tally, &dump, Field { block, bit_start, bit_count }, n)?;
+                }
+            }
+            for words in NO_DUMP {
+                let field = Field { block: 11, bit_start: 256, bit_count: 1 };
+                into_bytes(library, tally, &dumps::lent(&dump, words), field, n)?;
+            }
+        }
+    }
+    Ok(())
+}
+
+pub fn view(library: &Library, tally: &mut Tally, [field, reference]: [&[u32]; 2], board: u8, block: u8) -> Compared {
+    let input = || Input::default().number("board", board).number("block", block).dump(field).dump(reference);
+    let wanted = || {
+        let answer = answers::view(field, reference, board, block);
+        let number = number(&answer);
+        let answers::View { board, first, words } = answer.unwrap_or_default();
+        SkvView { number, board, first: first as u32, words: words as u32 }
+    };
+    tally.same("view", input, (library.view)(field, reference, board, block), wanted)
+}
+
+/// Every board and block on dumps of any length.
+pub fn views(library: &Library, tally: &mut Tally, noise: &mut Noise) -> Compared {
+    let (field, reference) = (noise.dump(), noise.dump());
+    for (field_words, reference_words) in [(88, 88), (87, 88), (88, 87), (0, 89), (dumps::MOST_WORDS, 0)] {
+        let boards = [dumps::lent(&field, field_words), dumps::lent(&reference, reference_words)];
+        for (board, block) in (0..=255).flat_map(|board| (0..=255).map(move |block| (board, block))) {
+            view(library, tally, [&boards[0], &boards[1]], board, block)?;
+        }
+    }
+    Ok(())
+}
