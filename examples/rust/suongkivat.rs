@@ -128,6 +128,22 @@ impl LineRecord {
         decoded.refusal.or(LineRecord(decoded.record))
     }
 
+    pub fn coeff_a(&self) -> u32 {
+        self.0.coeff_a
+    }
+
+    pub fn coeff_b(&self) -> u32 {
+        self.0.coeff_b
+    }
+
+    pub fn vref(&self) -> Millivolt {
+        Millivolt(self.0.vref as u16)
+    }
+
+    pub fn uses_lookup(&self) -> bool {
+        self.0.use_lut != 0
+    }
+
     /// A count's millivolts. Refusal 8; a decoded record is never refused.
     pub fn convert(&self, count: Count) -> Answer<Millivolt> {
         let answer = unsafe { raw::skv_convert(self.0, raw::SkvCount { raw: count.0 }) };
@@ -219,5 +235,57 @@ pub mod raw {
             map: *const u8,
             map_len: usize,
         ) -> SkvVoltage;
+    }
+}
+
+#[cfg(test)]
+mod tests {
+    use super::*;
+
+    const NO_DUMP: [u32; 88] = [0; 88];
+    const MAP: &[u8] = include_bytes!("../day/map.bin");
+
+    fn record() -> LineRecord {
+        LineRecord::decode(&NO_DUMP, MAP, 0, 3).unwrap()
+    }
+
+    #[test]
+    fn fill_writes_what_convert_answers() {
+        let mut table = [0; 4096];
+        let (below, above) = table.split_at_mut(1000);
+        assert_eq!(record().fill(Count(0), below), Ok(()));
+        assert_eq!(record().fill(Count(1000), above), Ok(()));
+        for raw in 0..4096 {
+            assert_eq!(record().convert(Count(raw)), Ok(Millivolt(table[usize::from(raw)])));
+        }
+        assert_eq!(record().fill(Count(1), &mut table), Err(Refusal(11)));
+        assert_eq!((table[0], table[4095]), (142, 3134));
+    }
+
+    #[test]
+    fn a_view_is_a_part_of_its_dump() {
+        let reference = [1; 88];
+        let boards = Session { field: &NO_DUMP, reference: &reference, map: MAP };
+        assert_eq!(boards.view(1, 10), Ok(&reference[80..]));
+        assert_eq!(boards.view(1, 10).unwrap().as_ptr(), &reference[80]);
+        assert_eq!(boards.view(2, 10), Err(Refusal(15)));
+    }
+
+    #[test]
+    fn fields_and_curves() {
+        let mut dump = NO_DUMP;
+        dump[8] = 0x8000_0000;
+        dump[9] = 1;
+        assert_eq!(read_field(&dump, Field { block: 1, bit_start: 31, bit_count: 9 }), Ok(3));
+        assert_eq!(read_field(&dump[1..], Field { block: 1, bit_start: 31, bit_count: 9 }), Err(Refusal(1)));
+        assert_eq!(correct(Chip::C3, 0, 3, Millivolt(1)), Ok(Millivolt(2)));
+        assert_eq!(correct(Chip::S2, 0, 3, Millivolt(1)), Err(Refusal(14)));
+    }
+
+    #[test]
+    fn a_torn_log_ends_with_a_refusal() {
+        let first = Sample { raw: Count(2880), board: 1, last: 3 };
+        let mut log = Log(&[0x40, 0x0B, 1, 3, 0]);
+        assert_eq!((log.next(), log.next(), log.next()), (Some(Ok(first)), Some(Err(Refusal(16))), None));
     }
 }
