@@ -3,9 +3,7 @@
 use std::ffi::{c_char, c_int, c_void, CString};
 use std::mem;
 
-use crate::suongkivat::raw::{
-    SkvCount, SkvDecoded, SkvField, SkvLineRecord, SkvMillivolt, SkvOutcome, SkvRead, SkvVoltage,
-};
+use crate::suongkivat::raw::{SkvCount, SkvDecoded, SkvField, SkvLineRecord, SkvMillivolt, SkvOutcome, SkvRead, SkvVoltage};
 
 extern "C" {
     fn dlopen(path: *const c_char, flags: c_int) -> *mut c_void;

@@ -49,7 +49,11 @@ fn decoded<ADCX>(line: AdcCalLine<ADCX>) -> SkvDecoded {
 #[no_mangle]
 pub extern "C" fn new_cal(unit: u8, atten: u8) -> SkvDecoded {
     let atten = esp32::reach::attenuation(atten);
-    if unit == 0 { decoded(AdcCalLine::<ADC1>::new_cal(atten)) } else { decoded(AdcCalLine::<ADC2>::new_cal(atten)) }
+    if unit == 0 {
+        decoded(AdcCalLine::<ADC1>::new_cal(atten))
+    } else {
+        decoded(AdcCalLine::<ADC2>::new_cal(atten))
+    }
 }
 
 /// The same with its fields read by `read_field_le` where the map has them.

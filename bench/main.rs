@@ -10,12 +10,9 @@ use rows::{Bench, Held, Row};
 
 fn told(held: &Held) -> String {
     let ratio = &held.ratio;
-    let reached = match held.bar {
-        None => "-".to_string(),
-        Some(bar) if ratio.middle <= bar => format!("{bar:.2} yes"),
-        Some(bar) => format!("{bar:.2} NO"),
-    };
-    format!("{:.2} | {:.2} to {:.2} | {reached}", ratio.middle, ratio.low, ratio.high)
+    let bar = held.bar.map_or(String::new(), |bar| format!("{bar:.2}"));
+    let reached = held.reached().map_or("", |reached| if reached { " yes" } else { " NO" });
+    format!("{:.2} | {:.2} to {:.2} | {bar}{reached}", ratio.middle, ratio.low, ratio.high)
 }
 
 fn line(row: &Row) -> String {
@@ -27,10 +24,10 @@ fn main() {
     let paths: Vec<_> = std::env::args().skip(1).collect();
     let [ours, release, checked] = &paths[..] else { panic!("usage: main OURS RELEASE CHECKED") };
     let rows = Bench::open(ours, release, checked).rows();
-    println!("| work | against | ours, ns | ratio | middle half | bar | overflow checks: ratio | middle half | bar |");
+    println!("| work | against | ours, ns | ratio | middle half | bar | with overflow checks | middle half | bar |");
     println!("|---|---|---|---|---|---|---|---|---|");
     rows.iter().for_each(|row| println!("{}", line(row)));
     let held = rows.iter().flat_map(|row| [Some(&row.release), row.checked.as_ref()]).flatten();
-    let missed = held.filter(|held| held.bar.is_some_and(|bar| held.ratio.middle > bar)).count();
-    println!("\n{missed} bars not reached");
+    let reached: Vec<_> = held.filter_map(Held::reached).collect();
+    println!("\n{} bars, {} not reached", reached.len(), reached.iter().filter(|reached| !**reached).count());
 }

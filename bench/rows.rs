@@ -17,7 +17,7 @@ const STRETCH: usize = 64;
 const DB11: u8 = 3;
 
 /// The overflow-checked build is to be beaten.
-const BEATEN: f64 = 1.0;
+const BEATEN: f64 = 0.99;
 
 const NONE: SkvRefusal = SkvRefusal { number: 0 };
 const NO_VOLTAGE: SkvVoltage = SkvVoltage { refusal: NONE, voltage: SkvMillivolt { mv: 0 } };
@@ -27,6 +27,13 @@ const NO_RECORD: SkvLineRecord = SkvLineRecord { coeff_a: 0, coeff_b: 0, vref: 0
 pub struct Held {
     pub ratio: Ratio,
     pub bar: Option<f64>,
+}
+
+impl Held {
+    /// Whether the bar is reached, where there is one. Ratio and bar have two decimals.
+    pub fn reached(&self) -> Option<bool> {
+        self.bar.map(|bar| (100.0 * self.ratio.middle).round() <= (100.0 * bar).round())
+    }
 }
 
 pub struct Row {

@@ -221,7 +221,8 @@ pub mod raw {
             board: u8,
             block: u8,
         ) -> SkvView;
-        pub fn skv_decode(dump: *const u32, dump_len: usize, map: *const u8, map_len: usize, unit: u8, atten: u8) -> SkvDecoded;
+        pub fn skv_decode(dump: *const u32, dump_len: usize, map: *const u8, map_len: usize, unit: u8, atten: u8)
+            -> SkvDecoded;
         pub fn skv_convert(cal: SkvLineRecord, count: SkvCount) -> SkvVoltage;
         pub fn skv_fill(cal: SkvLineRecord, first: SkvCount, out: *mut u16, out_len: usize) -> SkvOutcome;
         pub fn skv_correct(chip: u8, minor: u8, unit: u8, atten: u8, line: SkvMillivolt) -> SkvVoltage;
