@@ -33,33 +33,22 @@ pub struct Field {
     pub bit_count: u16,
 }
 
-/// The chips, by the header's numbers; a C6 has its minor block version.
+/// A chip by the header's number; a C6 has its minor block version.
 #[derive(Debug, Clone, Copy, PartialEq, Eq)]
-pub enum Chip {
-    Esp32,
-    S2,
-    C3,
-    C5,
-    C6(u8),
-    C61,
-    H2,
-    P4,
-    S3,
-}
+pub struct Chip(u8, u8);
 
 impl Chip {
-    fn numbers(self) -> (u8, u8) {
-        match self {
-            Chip::Esp32 => (0, 0),
-            Chip::S2 => (1, 0),
-            Chip::C3 => (2, 0),
-            Chip::C5 => (3, 0),
-            Chip::C6(minor) => (4, minor),
-            Chip::C61 => (5, 0),
-            Chip::H2 => (6, 0),
-            Chip::P4 => (7, 0),
-            Chip::S3 => (8, 0),
-        }
+    pub const ESP32: Chip = Chip(0, 0);
+    pub const S2: Chip = Chip(1, 0);
+    pub const C3: Chip = Chip(2, 0);
+    pub const C5: Chip = Chip(3, 0);
+    pub const C61: Chip = Chip(5, 0);
+    pub const H2: Chip = Chip(6, 0);
+    pub const P4: Chip = Chip(7, 0);
+    pub const S3: Chip = Chip(8, 0);
+
+    pub const fn c6(minor: u8) -> Chip {
+        Chip(4, minor)
     }
 }
 
@@ -72,8 +61,7 @@ pub fn read_field(dump: &[u32], field: Field) -> Answer<u32> {
 
 /// Corrects a line answer by the curve of its chip, unit and attenuation. Refusals 7, 14, 13.
 pub fn correct(chip: Chip, unit: u8, atten: u8, line: Millivolt) -> Answer<Millivolt> {
-    let (number, minor) = chip.numbers();
-    let answer = unsafe { raw::skv_correct(number, minor, unit, atten, raw::SkvMillivolt { mv: line.0 }) };
+    let answer = unsafe { raw::skv_correct(chip.0, chip.1, unit, atten, raw::SkvMillivolt { mv: line.0 }) };
     answer.refusal.or(Millivolt(answer.voltage.mv))
 }
 
@@ -281,6 +269,7 @@ mod tests {
         assert_eq!(read_field(&dump[1..], Field { block: 1, bit_start: 31, bit_count: 9 }), Err(Refusal(1)));
         assert_eq!(correct(Chip::C3, 0, 3, Millivolt(1)), Ok(Millivolt(2)));
         assert_eq!(correct(Chip::S2, 0, 3, Millivolt(1)), Err(Refusal(14)));
+        assert_ne!(correct(Chip::c6(1), 0, 3, Millivolt(4095)), correct(Chip::c6(2), 0, 3, Millivolt(4095)));
     }
 
     #[test]
