@@ -75,6 +75,13 @@ fn fields(width: u16) -> Vec<SkvField> {
     (0..1024).map(field).collect()
 }
 
+/// A work of ours against another way to the same answers.
+fn one<A: Clone + PartialEq>(work: String, against: &'static str, bar: Option<f64>, blank: &[A], ways: [Way<A>; 2]) -> Row {
+    let Outcome { nanoseconds, mut ratios } = contest(&work, blank, ways[0], &[ways[1]]);
+    let release = Held { ratio: ratios.remove(0), bar };
+    Row { work, against, nanoseconds, release, checked: None }
+}
+
 impl Bench {
     /// The three objects' calls, on the two boards of examples/day.
     pub fn open(ours: &str, release: &str, checked: &str) -> Self {
@@ -105,24 +112,11 @@ impl Bench {
         Row { work, against: "the crate", nanoseconds, release, checked: held.next() }
     }
 
-    /// A work of ours against another way to the same answers.
-    fn one<A: Clone + PartialEq>(
-        &self,
-        work: String,
-        against: &'static str,
-        bar: Option<f64>,
-        blank: &[A],
-        [how, other]: [Way<A>; 2],
-    ) -> Row {
-        let Outcome { nanoseconds, mut ratios } = contest(&work, blank, how, &[other]);
-        let release = Held { ratio: ratios.remove(0), bar };
-        Row { work, against, nanoseconds, release, checked: None }
-    }
-
+    /// Fields of a dump of mixed bits.
     fn read_field(&self, width: u16, read: fn(&Calls) -> ReadField) -> Row {
-        self.load(&self.field);
+        let dump: [u32; 88] = std::array::from_fn(|k| (k as u32 + 1).wrapping_mul(0x9E37_79B9));
+        self.load(&dump);
         let fields = fields(width);
-        let dump = &self.field;
         let blank = vec![SkvRead { refusal: NONE, value: 0 }; fields.len()];
         self.both(format!("read a field, {width} bits"), [None, None], &blank, &|calls, out| {
             let read = read(calls);
@@ -132,7 +126,7 @@ impl Bench {
         })
     }
 
-    /// Decoding each unit at each attenuation, by a map; and, without one, the crate's alone.
+    /// Decoding each unit at each attenuation, by a map; and against the crate's alone, whose fields hold then what the map's did.
     fn decode(&self, name: &str, dump: &[u32; 88]) -> [Row; 2] {
         self.load(dump);
         let map = &self.map;
@@ -150,7 +144,7 @@ impl Bench {
                 *out = new_cal(k / 4, k % 4);
             }
         };
-        [mapped, self.one(format!("decode, {name}"), "new_cal, fields fixed, no map", None, &blank, [ours, fixed])]
+        [mapped, one(format!("decode, {name}"), "new_cal, fields fixed, no map", None, &blank, [ours, fixed])]
     }
 
     /// The field board's record of unit 0 at 11 dB, with the lookup or without.
@@ -173,7 +167,7 @@ impl Bench {
         };
         let plain = self.both(work.clone(), [Some(bar), Some(BEATEN)], &blank, how);
         let ways: [Way<SkvVoltage>; 2] = [&|out| how(&self.ours, out), &|out| how(&self.release.tested, out)];
-        [plain, self.one(work, "the crate, with our two tests", Some(tested_bar), &blank, ways)]
+        [plain, one(work, "the crate, with our two tests", Some(tested_bar), &blank, ways)]
     }
 
     /// The whole table, in stretches of that many counts.
@@ -196,7 +190,7 @@ impl Bench {
             }
         };
         let ours: Way<u16> = &|out| how(&self.ours, out);
-        [plain, self.one(work, "memcpy", copy_bar, &blank, [ours, copy])]
+        [plain, one(work, "memcpy", copy_bar, &blank, [ours, copy])]
     }
 
     /// A curve at every line answer; the table is selected in the call.
