@@ -21,7 +21,9 @@ const LUT_POINTS: u32 = 20;
 
 const LUT_VREF_LOW: u32 = 1000;
 
-const LUT_VREF_SPAN: u32 = 200;
+const LUT_VREF_HIGH: u32 = 1200;
+
+const LUT_VREF_SPAN: u32 = LUT_VREF_HIGH - LUT_VREF_LOW;
 
 // A row of the tables: millivolts at a Vref of 1000 and of 1200.
 pub(crate) struct Row(pub(crate) u32, pub(crate) u32);
@@ -77,8 +79,8 @@ fn lut_row(k: u32) -> Row
     }
 }
 
-// `LUT_VREF_SPAN` times the millivolts at point k: on the way from low to high by Vref, which may be off it. By the
-// tables no difference here is below zero.
+// `LUT_VREF_SPAN` times the millivolts at point k: the low ones, and as much of the way to the high ones as Vref is above
+// `LUT_VREF_LOW`. By the tables no difference here is below zero.
 fn point(unit: u8, vref: u32, k: u32) -> u32
     requires { ⌜ (unit ≤ 1) × (vref ≤ 1205) × (k < 20) ⌝ }
     ensures { λ r. ⌜ r ≡ pointAt unit vref k ⌝ }
