@@ -23,6 +23,8 @@ const LUT_VREF_LOW: u32 = 1000;
 
 const LUT_VREF_HIGH: u32 = 1200;
 
+const LUT_VREF_SPAN: u32 = LUT_VREF_HIGH - LUT_VREF_LOW;
+
 // A row of the tables: millivolts at a Vref of 1000 and of 1200.
 pub(crate) struct Row(pub(crate) u32, pub(crate) u32);
 
@@ -77,7 +79,8 @@ fn lut_row(k: u32) -> Row
     }
 }
 
-// `LUT_VREF_HIGH - LUT_VREF_LOW` times the millivolts at point k. By the tables no difference here is below zero.
+// `LUT_VREF_SPAN` times the millivolts at point k: the low ones, and as much of the way to the high ones as Vref is above
+// `LUT_VREF_LOW`. By the tables no difference here is below zero.
 fn point(unit: u8, vref: u32, k: u32) -> u32
     requires { ⌜ (unit ≤ 1) × (vref ≤ 1205) × (k < 20) ⌝ }
     ensures { λ r. ⌜ r ≡ pointAt unit vref k ⌝ }
@@ -85,7 +88,8 @@ fn point(unit: u8, vref: u32, k: u32) -> u32
     let row = lut_row(LUT_POINTS * (unit as u32) + k);
     let low = row.0;
     let high = row.1;
-    LUT_VREF_HIGH * low - LUT_VREF_LOW * high + vref * (high - low)
+    let rise = high - low;
+    LUT_VREF_SPAN * low + vref * rise - LUT_VREF_LOW * rise
 }
 
 // `LUT_SCALE` times the voltage between two points, rounding included, where place of the 64 counts between them are gone.

@@ -22,26 +22,26 @@ made c =
     let p = c .before .pre in
     point-made _ _ _ (p .0) (p .2) (p .1) (c .lut-row .ensures .0) (c .lut-row .ensures .1)
 
+sub-rise : tie.Need-sub-rise
+sub-rise c = made c .order
+
 mul-result : tie.Need-mul-result
 mul-result c = let m = made c in omega arith
 
 mul-result-2 : tie.Need-mul-result-2
 mul-result-2 c = let m = made c in omega arith
 
-sub-result : tie.Need-sub-result
-sub-result c = made c .apart
-
-sub-result-2 : tie.Need-sub-result-2
-sub-result-2 c = made c .order
+add-result : tie.Need-add-result
+add-result c = let m = made c in omega arith
 
 mul-result-3 : tie.Need-mul-result-3
 mul-result-3 c = let m = made c in omega arith
 
-add-result : tie.Need-add-result
-add-result c = let m = made c in omega arith
+sub-result : tie.Need-sub-result
+sub-result c = let m = made c in omega arith
 
 returns : tie.Need-returns
-returns c = made c .is
+returns c = let m = made c in omega arith
 
 pub point-spec : {M : Type 1} → statement M
 point-spec =
@@ -50,10 +50,10 @@ point-spec =
     mul-lut-row
     add-lut-row
     lut-row-requires
+    sub-rise
     mul-result
     mul-result-2
-    sub-result
-    sub-result-2
-    mul-result-3
     add-result
+    mul-result-3
+    sub-result
     returns)

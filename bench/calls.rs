@@ -1,0 +1,93 @@
+//! The calls of a shared object: ours, or the crate's behind the same names. Every call goes through a pointer that is found when the
+//! program runs, so no side can be compiled into the loop that times it.
+use std::ffi::{c_char, c_int, c_void, CString};
+use std::mem;
+
+use crate::suongkivat::raw::{SkvCount, SkvDecoded, SkvField, SkvLineRecord, SkvMillivolt, SkvOutcome, SkvRead, SkvVoltage};
+
+extern "C" {
+    fn dlopen(path: *const c_char, flags: c_int) -> *mut c_void;
+    fn dlsym(object: *mut c_void, name: *const c_char) -> *mut c_void;
+}
+
+const RTLD_NOW: c_int = 2;
+
+pub type ReadField = extern "C" fn(*const u32, usize, SkvField) -> SkvRead;
+pub type Decode = extern "C" fn(*const u32, usize, *const u8, usize, u8, u8) -> SkvDecoded;
+pub type NewCal = extern "C" fn(u8, u8) -> SkvDecoded;
+pub type Convert = extern "C" fn(SkvLineRecord, SkvCount) -> SkvVoltage;
+pub type Fill = extern "C" fn(SkvLineRecord, SkvCount, *mut u16, usize) -> SkvOutcome;
+pub type Correct = extern "C" fn(u8, u8, u8, u8, SkvMillivolt) -> SkvVoltage;
+type Load = extern "C" fn(*const u32, u8);
+
+struct Object(*mut c_void);
+
+impl Object {
+    fn open(path: &str) -> Self {
+        let name = CString::new(path).expect("a path");
+        let object = unsafe { dlopen(name.as_ptr(), RTLD_NOW) };
+        assert!(!object.is_null(), "{path} can't be opened");
+        Self(object)
+    }
+
+    /// The function of that name. Its type is the caller's to say: a pointer's.
+    fn find<F: Copy>(&self, name: &str) -> F {
+        assert_eq!(mem::size_of::<F>(), mem::size_of::<*mut c_void>());
+        let symbol = CString::new(name).expect("a name");
+        let place = unsafe { dlsym(self.0, symbol.as_ptr()) };
+        assert!(!place.is_null(), "there is no {name}");
+        unsafe { mem::transmute_copy(&place) }
+    }
+}
+
+#[derive(Clone, Copy)]
+pub struct Calls {
+    pub read_field_u8: ReadField,
+    pub read_field_u16: ReadField,
+    pub read_field_u32: ReadField,
+    pub decode: Decode,
+    pub convert: Convert,
+    pub fill: Fill,
+    pub correct: Correct,
+}
+
+impl Calls {
+    fn of(object: &Object) -> Self {
+        Self {
+            read_field_u8: object.find("skv_read_field_u8"),
+            read_field_u16: object.find("skv_read_field_u16"),
+            read_field_u32: object.find("skv_read_field_u32"),
+            decode: object.find("skv_decode"),
+            convert: object.find("skv_convert"),
+            fill: object.find("skv_fill"),
+            correct: object.find("skv_correct"),
+        }
+    }
+
+    pub fn ours(path: &str) -> Self {
+        Self::of(&Object::open(path))
+    }
+}
+
+/// A build of the crate: its calls, and what only it has.
+pub struct Crate {
+    pub calls: Calls,
+    /// The same calls with our two tests in front of `convert`.
+    pub tested: Calls,
+    pub new_cal: NewCal,
+    load: Load,
+}
+
+impl Crate {
+    pub fn open(path: &str) -> Self {
+        let object = Object::open(path);
+        let calls = Calls::of(&object);
+        let tested = Calls { convert: object.find("tested_convert"), ..calls };
+        Self { calls, tested, new_cal: object.find("new_cal"), load: object.find("load") }
+    }
+
+    /// Makes the words the crate's dump, and the number its C6's minor block version.
+    pub fn load(&self, dump: &[u32; 88], minor: u8) {
+        (self.load)(dump.as_ptr(), minor);
+    }
+}

@@ -1,0 +1,127 @@
+//! The crate's own functions behind the calls of include/suongkivat.h: the same names, structs by value and lent lists, so that they
+//! are called just as ours are. Nothing is checked and nothing refused, as in the crate. Built once for each build of the crate.
+use std::slice;
+
+use esp32::analog::adc::{AdcCalLine, AdcCalScheme};
+use esp32::efuse::Home;
+use esp32::peripherals::{ADC1, ADC2};
+use oracle::line::Record;
+use oracle::rules;
+
+#[allow(dead_code)]
+#[path = "../examples/rust/suongkivat.rs"]
+mod suongkivat;
+use suongkivat::raw::{
+    SkvCount, SkvDecoded, SkvField, SkvLineRecord, SkvMillivolt, SkvOutcome, SkvRead, SkvRefusal, SkvVoltage,
+};
+
+const NONE: SkvRefusal = SkvRefusal { number: 0 };
+
+/// What has to be done before fields are read: the crate's dump is one memory, and so is a C6's version.
+#[no_mangle]
+pub unsafe extern "C" fn load(dump: *const u32, minor: u8) {
+    let words = &*dump.cast::<oracle::Dump>();
+    esp32::reach::load(words);
+    esp32c6::reach::set(esp32c6::efuse::Home::BLK_VERSION_MINOR, minor.into());
+}
+
+/// `read_field_le` at a width.
+macro_rules! read_field {
+    ($name:ident, $width:ty) => {
+        #[no_mangle]
+        pub extern "C" fn $name(_dump: *const u32, _dump_len: usize, field: SkvField) -> SkvRead {
+            let field = esp32::reach::field(field.block.into(), field.bit_start.into(), field.bit_count.into());
+            SkvRead { refusal: NONE, value: esp32::efuse::read_field_le::<$width>(field).into() }
+        }
+    };
+}
+
+read_field!(skv_read_field_u8, u8);
+read_field!(skv_read_field_u16, u16);
+read_field!(skv_read_field_u32, u32);
+
+fn decoded<ADCX>(line: AdcCalLine<ADCX>) -> SkvDecoded {
+    let (coeff_a, coeff_b, vref, unit, use_lut) = line.taken_apart();
+    SkvDecoded { refusal: NONE, record: SkvLineRecord { coeff_a, coeff_b, vref, unit, use_lut: use_lut.into() } }
+}
+
+/// `new_cal`, with its fields where they stand in the crate.
+#[no_mangle]
+pub extern "C" fn new_cal(unit: u8, atten: u8) -> SkvDecoded {
+    let atten = esp32::reach::attenuation(atten);
+    if unit == 0 {
+        decoded(AdcCalLine::<ADC1>::new_cal(atten))
+    } else {
+        decoded(AdcCalLine::<ADC2>::new_cal(atten))
+    }
+}
+
+/// The same with its fields read by `read_field_le` where the map has them.
+#[no_mangle]
+pub unsafe extern "C" fn skv_decode(
+    _dump: *const u32,
+    _dump_len: usize,
+    map: *const u8,
+    map_len: usize,
+    unit: u8,
+    atten: u8,
+) -> SkvDecoded {
+    esp32::reach::bring_home(Home::ADC_VREF, slice::from_raw_parts(map, map_len));
+    new_cal(unit, atten)
+}
+
+fn record(cal: SkvLineRecord) -> Record {
+    let SkvLineRecord { coeff_a, coeff_b, vref, unit, use_lut } = cal;
+    Record { coeff_a, coeff_b, vref, unit, use_lut: use_lut != 0 }
+}
+
+/// `adc_val`.
+#[no_mangle]
+pub extern "C" fn skv_convert(cal: SkvLineRecord, count: SkvCount) -> SkvVoltage {
+    SkvVoltage { refusal: NONE, voltage: SkvMillivolt { mv: record(cal).line().adc_val(count.raw) } }
+}
+
+/// The same with the two tests in front that ours makes too, as Rust writes them.
+#[no_mangle]
+pub extern "C" fn tested_convert(cal: SkvLineRecord, count: SkvCount) -> SkvVoltage {
+    match rules::record(record(cal)).and_then(|()| rules::raw(count.raw)) {
+        Ok(()) => skv_convert(cal, count),
+        Err(number) => SkvVoltage { refusal: SkvRefusal { number }, voltage: SkvMillivolt { mv: 0 } },
+    }
+}
+
+/// `adc_val` of one count after the other.
+#[no_mangle]
+pub unsafe extern "C" fn skv_fill(cal: SkvLineRecord, first: SkvCount, out: *mut u16, out_len: usize) -> SkvOutcome {
+    let line = record(cal).line();
+    for (raw, out) in (first.raw..).zip(slice::from_raw_parts_mut(out, out_len)) {
+        *out = line.adc_val(raw);
+    }
+    SkvOutcome { refusal: NONE }
+}
+
+/// A curve of a chip's unit at a line answer: its table is selected, then `adc_val`.
+macro_rules! corrected {
+    ($chip:ident, $unit:ident, $atten:expr, $line:expr) => {{
+        use $chip::analog::adc::{AdcCalCurve, AdcCalScheme};
+        AdcCalCurve::<$chip::peripherals::$unit>::new_cal($chip::reach::attenuation($atten)).adc_val($line)
+    }};
+}
+
+#[no_mangle]
+pub extern "C" fn skv_correct(chip: u8, _minor: u8, unit: u8, atten: u8, line: SkvMillivolt) -> SkvVoltage {
+    let mv = match (chip, unit) {
+        (2, 0) => corrected!(esp32c3, ADC1, atten, line.mv),
+        (2, 1) => corrected!(esp32c3, ADC2, atten, line.mv),
+        (3, 0) => corrected!(esp32c5, ADC1, atten, line.mv),
+        (4, 0) => corrected!(esp32c6, ADC1, atten, line.mv),
+        (5, 0) => corrected!(esp32c61, ADC1, atten, line.mv),
+        (6, 0) => corrected!(esp32h2, ADC1, atten, line.mv),
+        (7, 0) => corrected!(esp32p4, ADC1, atten, line.mv),
+        (7, 1) => corrected!(esp32p4, ADC2, atten, line.mv),
+        (8, 0) => corrected!(esp32s3, ADC1, atten, line.mv),
+        (8, 1) => corrected!(esp32s3, ADC2, atten, line.mv),
+        _ => panic!("no curve for chip {chip}, unit {unit}"),
+    };
+    SkvVoltage { refusal: NONE, voltage: SkvMillivolt { mv } }
+}

@@ -1,0 +1,33 @@
+//! main OURS RELEASE CHECKED: times the calls of three shared objects on the same inputs, and prints a table. `bench/run` builds them.
+mod calls;
+mod rows;
+#[allow(dead_code)]
+#[path = "../examples/rust/suongkivat.rs"]
+mod suongkivat;
+mod timing;
+
+use rows::{Bench, Held, Row};
+
+fn told(held: &Held) -> String {
+    let ratio = &held.ratio;
+    let bar = held.bar.map_or(String::new(), |bar| format!("{bar:.2}"));
+    let reached = held.reached().map_or("", |reached| if reached { " yes" } else { " NO" });
+    format!("{:.2} | {:.2} to {:.2} | {bar}{reached}", ratio.middle, ratio.low, ratio.high)
+}
+
+fn line(row: &Row) -> String {
+    let checked = row.checked.as_ref().map_or("| |".to_string(), told);
+    format!("| {} | {} | {:.2} | {} | {checked} |", row.work, row.against, row.nanoseconds, told(&row.release))
+}
+
+fn main() {
+    let paths: Vec<_> = std::env::args().skip(1).collect();
+    let [ours, release, checked] = &paths[..] else { panic!("usage: main OURS RELEASE CHECKED") };
+    let rows = Bench::open(ours, release, checked).rows();
+    println!("| work | against | ours, ns | ratio | middle half | bar | with overflow checks | middle half | bar |");
+    println!("|---|---|---|---|---|---|---|---|---|");
+    rows.iter().for_each(|row| println!("{}", line(row)));
+    let held = rows.iter().flat_map(|row| [Some(&row.release), row.checked.as_ref()]).flatten();
+    let reached: Vec<_> = held.filter_map(Held::reached).collect();
+    println!("\n{} bars, {} not reached", reached.len(), reached.iter().filter(|reached| !**reached).count());
+}

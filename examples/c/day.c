@@ -1,0 +1,91 @@
+/* Suongkivat from C: the records of two boards, a few counts by each, and a log's samples as the desk program answers them. Run in a
+   folder with field.bin, reference.bin, map.bin and samples.bin; examples/run builds it. */
+#include "suongkivat.h"
+
+#include <stdio.h>
+
+enum { WORDS = 88, WORD = 4, MAP_BYTES = 48, SAMPLE_BYTES = 4 };
+
+typedef struct Dump {
+    uint32_t words[WORDS];
+    size_t len;
+} Dump;
+
+/* Reads up to that many bytes of a file; a missing one counts as empty. */
+static size_t load(const char *name, uint8_t *bytes, size_t size)
+{
+    FILE *file = fopen(name, "rb");
+    const size_t n = file ? fread(bytes, 1, size, file) : 0;
+    if (file)
+        fclose(file);
+    return n;
+}
+
+/* A dump file has 88 words, low byte first; one of another length is a dump without words, which each call refuses. */
+static Dump load_dump(const char *name)
+{
+    uint8_t bytes[WORDS * WORD + 1];
+    Dump dump = {{0}, 0};
+    if (load(name, bytes, sizeof bytes) == WORDS * WORD)
+        dump.len = WORDS;
+    for (size_t k = 0; k < dump.len * WORD; k++)
+        dump.words[k / WORD] |= (uint32_t)bytes[k] << (8 * (k % WORD));
+    return dump;
+}
+
+static void print_answer(SkvVoltage answer)
+{
+    if (answer.refusal.number == SKV_NONE)
+        printf("%u\n", answer.voltage.mv);
+    else
+        printf("refused %u\n", answer.refusal.number);
+}
+
+/* A board's record for a unit and an attenuation, and what it makes of a few counts. */
+static void print_record(char board, const Dump *dump, const uint8_t *map, size_t map_len, uint8_t unit, uint8_t atten)
+{
+    const SkvCount counts[] = {{0}, {2880}, {2912}, {4095}, {4096}};
+    const SkvDecoded decoded = skv_decode(dump->words, dump->len, map, map_len, unit, atten);
+    const SkvLineRecord cal = decoded.record;
+    printf("record %c, unit %u, attenuation %u: ", board, unit, atten);
+    if (decoded.refusal.number != SKV_NONE) {
+        printf("refused %u\n", decoded.refusal.number);
+        return;
+    }
+    printf("a %u, b %u, Vref %u, lookup %u\n", cal.coeff_a, cal.coeff_b, cal.vref, cal.use_lut);
+    for (size_t k = 0; k < sizeof counts / sizeof counts[0]; k++) {
+        printf("count %u: ", counts[k].raw);
+        print_answer(skv_convert(cal, counts[k]));
+    }
+}
+
+/* A log of any length, sample by sample; what is left at its end is none, or a torn one. */
+static void print_log(const char *name, const Dump *field, const Dump *reference, const uint8_t *map, size_t map_len)
+{
+    FILE *log = fopen(name, "rb");
+    for (unsigned long number = 0; log; number++) {
+        uint8_t bytes[SAMPLE_BYTES];
+        const SkvNext next = skv_next_sample(bytes, fread(bytes, 1, sizeof bytes, log));
+        const SkvSample sample = next.sample;
+        if (next.whole == 0) {
+            if (next.refusal.number != SKV_NONE)
+                printf("refused %u\n", next.refusal.number);
+            fclose(log);
+            return;
+        }
+        printf("%lu %c %u ", number, sample.board == 0 ? 'F' : sample.board == 1 ? 'R' : '?', sample.raw.raw);
+        print_answer(skv_sample(sample, field->words, field->len, reference->words, reference->len, map, map_len));
+    }
+}
+
+int main(void)
+{
+    uint8_t map[MAP_BYTES + 1];
+    const Dump field = load_dump("field.bin"), reference = load_dump("reference.bin");
+    const size_t map_len = load("map.bin", map, sizeof map);
+    print_record('F', &field, map, map_len, 0, 3);
+    print_record('F', &field, map, map_len, 1, 0);
+    print_record('R', &reference, map, map_len, 0, 3);
+    print_log("samples.bin", &field, &reference, map, map_len);
+    return 0;
+}
