@@ -1,4 +1,3 @@
 pub mod Chips
 pub mod Places
-pub mod Records
 pub mod Unique

@@ -60,7 +60,7 @@ fn record_from(cal: SkvLineRecord) -> LineRecord
 }
 
 // What C is given of a record.
-pub(crate) fn record_c(cal: LineRecord) -> SkvLineRecord
+fn record_c(cal: LineRecord) -> SkvLineRecord
     ensures { λ r. ⌜ r ≡ recordC cal ⌝ }
 {
     SkvLineRecord {
@@ -97,7 +97,7 @@ fn decoded_c(decoded: Decoded) -> SkvDecoded
 }
 
 // What C is given of a conversion.
-fn converted_c(converted: Converted) -> SkvVoltage
+pub(crate) fn converted_c(converted: Converted) -> SkvVoltage
     ensures { λ r. ⌜ r ≡ convertedC converted ⌝ }
 {
     match converted {
