@@ -1,4 +1,5 @@
-//! main OURS RELEASE CHECKED: times the calls of three shared objects on the same inputs, and prints a table. `bench/run` builds them.
+//! main OURS RELEASE CHECKED WHOLE: times the calls of four shared objects on the same inputs, and prints a table. `bench/run` builds
+//! them.
 mod calls;
 mod rows;
 #[allow(dead_code)]
@@ -17,15 +18,18 @@ fn told(held: &Held) -> String {
 
 fn line(row: &Row) -> String {
     let checked = row.checked.as_ref().map_or("| |".to_string(), told);
-    format!("| {} | {} | {:.2} | {} | {checked} |", row.work, row.against, row.nanoseconds, told(&row.release))
+    let whole = row.whole.as_ref().map_or(String::new(), |ratio| format!("{:.2}", ratio.middle));
+    format!("| {} | {} | {:.2} | {} | {checked} | {whole} |", row.work, row.against, row.nanoseconds, told(&row.release))
 }
 
 fn main() {
     let paths: Vec<_> = std::env::args().skip(1).collect();
-    let [ours, release, checked] = &paths[..] else { panic!("usage: main OURS RELEASE CHECKED") };
-    let rows = Bench::open(ours, release, checked).rows();
-    println!("| work | against | ours, ns | ratio | middle half | bar | with overflow checks | middle half | bar |");
-    println!("|---|---|---|---|---|---|---|---|---|");
+    let [ours, release, checked, whole] = &paths[..] else { panic!("usage: main OURS RELEASE CHECKED WHOLE") };
+    let rows = Bench::open(ours, release, checked, whole).rows();
+    println!(
+        "| work | against | ours, ns | ratio | middle half | bar | with overflow checks | middle half | bar | with fat LTO |"
+    );
+    println!("|---|---|---|---|---|---|---|---|---|---|");
     rows.iter().for_each(|row| println!("{}", line(row)));
     let held = rows.iter().flat_map(|row| [Some(&row.release), row.checked.as_ref()]).flatten();
     let reached: Vec<_> = held.filter_map(Held::reached).collect();

@@ -42,6 +42,8 @@ pub struct Row {
     pub nanoseconds: f64,
     pub release: Held,
     pub checked: Option<Held>,
+    /// Against the release build that is optimised as a whole, over the crates' borders.
+    pub whole: Option<Ratio>,
 }
 
 /// A work as each set of calls does it.
@@ -51,6 +53,7 @@ pub struct Bench {
     ours: Calls,
     release: Crate,
     checked: Crate,
+    whole: Crate,
     field: [u32; 88],
     reference: [u32; 88],
     map: Vec<u8>,
@@ -79,37 +82,41 @@ fn fields(width: u16) -> Vec<SkvField> {
 fn one<A: Clone + PartialEq>(work: String, against: &'static str, bar: Option<f64>, blank: &[A], ways: [Way<A>; 2]) -> Row {
     let Outcome { nanoseconds, mut ratios } = contest(&work, blank, ways[0], &[ways[1]]);
     let release = Held { ratio: ratios.remove(0), bar };
-    Row { work, against, nanoseconds, release, checked: None }
+    Row { work, against, nanoseconds, release, checked: None, whole: None }
 }
 
 impl Bench {
-    /// The three objects' calls, on the two boards of examples/day.
-    pub fn open(ours: &str, release: &str, checked: &str) -> Self {
+    /// The four objects' calls, on the two boards of examples/day.
+    pub fn open(ours: &str, release: &str, checked: &str, whole: &str) -> Self {
         Self {
             ours: Calls::ours(ours),
             release: Crate::open(release),
             checked: Crate::open(checked),
+            whole: Crate::open(whole),
             field: dump("field.bin"),
             reference: dump("reference.bin"),
             map: file("map.bin"),
         }
     }
 
-    /// Makes a dump the crate's, in both builds. A C6 takes its second table.
+    /// Makes a dump the crate's, in each build. A C6 takes its second table.
     fn load(&self, dump: &[u32; 88]) {
-        self.release.load(dump, 2);
-        self.checked.load(dump, 2);
+        for build in [&self.release, &self.checked, &self.whole] {
+            build.load(dump, 2);
+        }
     }
 
-    /// A work against the crate's two builds.
-    fn both<A: Clone + PartialEq>(&self, work: String, bars: [Option<f64>; 2], blank: &[A], how: Work<A>) -> Row {
+    /// A work against the crate's three builds; the bars are for the first two.
+    fn all<A: Clone + PartialEq>(&self, work: String, bars: [Option<f64>; 2], blank: &[A], how: Work<A>) -> Row {
         let ours: Way<A> = &|out| how(&self.ours, out);
         let release: Way<A> = &|out| how(&self.release.calls, out);
         let checked: Way<A> = &|out| how(&self.checked.calls, out);
-        let Outcome { nanoseconds, ratios } = contest(&work, blank, ours, &[release, checked]);
+        let whole: Way<A> = &|out| how(&self.whole.calls, out);
+        let Outcome { nanoseconds, mut ratios } = contest(&work, blank, ours, &[release, checked, whole]);
+        let whole = ratios.pop();
         let mut held = ratios.into_iter().zip(bars).map(|(ratio, bar)| Held { ratio, bar });
         let release = held.next().expect("the crate's");
-        Row { work, against: "the crate", nanoseconds, release, checked: held.next() }
+        Row { work, against: "the crate", nanoseconds, release, checked: held.next(), whole }
     }
 
     /// Fields of a dump of mixed bits.
@@ -118,7 +125,7 @@ impl Bench {
         self.load(&dump);
         let fields = fields(width);
         let blank = vec![SkvRead { refusal: NONE, value: 0 }; fields.len()];
-        self.both(format!("read a field, {width} bits"), [None, None], &blank, &|calls, out| {
+        self.all(format!("read a field, {width} bits"), [None, None], &blank, &|calls, out| {
             let read = read(calls);
             for (out, field) in out.iter_mut().zip(&fields) {
                 *out = read(dump.as_ptr(), dump.len(), *field);
@@ -136,7 +143,7 @@ impl Bench {
                 *out = (calls.decode)(dump.as_ptr(), dump.len(), map.as_ptr(), map.len(), k / 4, k % 4);
             }
         };
-        let mapped = self.both(format!("decode, {name}"), [Some(0.9), Some(BEATEN)], &blank, how);
+        let mapped = self.all(format!("decode, {name}"), [Some(0.9), Some(BEATEN)], &blank, how);
         let ours: Way<SkvDecoded> = &|out| how(&self.ours, out);
         let new_cal = self.release.new_cal;
         let fixed: Way<SkvDecoded> = &|out| {
@@ -165,7 +172,7 @@ impl Bench {
                 *out = (calls.convert)(record, SkvCount { raw });
             }
         };
-        let plain = self.both(work.clone(), [Some(bar), Some(BEATEN)], &blank, how);
+        let plain = self.all(work.clone(), [Some(bar), Some(BEATEN)], &blank, how);
         let ways: [Way<SkvVoltage>; 2] = [&|out| how(&self.ours, out), &|out| how(&self.release.tested, out)];
         [plain, one(work, "the crate, with our two tests", Some(tested_bar), &blank, ways)]
     }
@@ -181,7 +188,7 @@ impl Bench {
                 assert_eq!((calls.fill)(record, first, part.as_mut_ptr(), part.len()), SkvOutcome { refusal: NONE });
             }
         };
-        let plain = self.both(work.clone(), [Some(bar), Some(BEATEN)], &blank, how);
+        let plain = self.all(work.clone(), [Some(bar), Some(BEATEN)], &blank, how);
         let mut table = blank.clone();
         how(&self.ours, &mut table);
         let copy: Way<u16> = &|out| {
@@ -196,7 +203,7 @@ impl Bench {
     /// A curve at every line answer; the table is selected in the call.
     fn correct(&self, name: &str, chip: u8, unit: u8, atten: u8) -> Row {
         let blank = vec![NO_VOLTAGE; usize::from(COUNTS)];
-        self.both(format!("curve, {name}"), [Some(1.35), None], &blank, &|calls, out| {
+        self.all(format!("curve, {name}"), [Some(1.35), None], &blank, &|calls, out| {
             for (mv, out) in (0..).zip(out) {
                 *out = (calls.correct)(chip, 2, unit, atten, SkvMillivolt { mv });
             }

@@ -82,6 +82,7 @@ pub fn unit(unit: u8, atten: u8) -> Answer<()> {
 }
 
 /// 8: raw above 4095.
+#[inline]
 pub fn raw(raw: u16) -> Answer<()> {
     refuse(raw > 4095, 8)
 }
@@ -95,6 +96,7 @@ pub fn underflow(dump: &Dump, map: &[u8], unit: u8) -> Answer<()> {
 }
 
 /// 10: line record outside its ranges.
+#[inline]
 pub fn record(record: Record) -> Answer<()> {
     let vref = (995..=1205).contains(&record.vref);
     refuse(record.coeff_a > 131071 || record.coeff_b > 4095 || !vref || record.unit > 1, 10)
