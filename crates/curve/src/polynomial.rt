@@ -17,7 +17,8 @@ fn step(poly: i64, v: u16, c: i64) -> i64
     poly * (v as i64) + c
 }
 
-// The error polynomial of curve k at v, by Horner's rule: of the len coefficients of the flat table from start on.
+// The error polynomial of curve k at v, by Horner's rule: of the len coefficients of the flat table from start on. That they are curve
+// k's is asked of the caller; the code has no use for k.
 fn poly(table: &[i64], k: u8, start: usize, len: usize, v: u16) -> i64
     requires { ⌜ (now table ≡ flat) × (part start len ≡ partAt k) × (k < 40) × (1 ≤ v) × (v ≤ 4095) ⌝ }
     ensures { λ r. ⌜ r ≡ horner (curveOf k) v ⌝ }
