@@ -1,14 +1,17 @@
 // The desk program: reads field.bin, reference.bin, map.bin and samples.bin of the current folder, and writes a line for each sample.
+// What is wrong is told on standard error.
 use libc::STDOUT_FILENO;
 
 fn main() {
-    let field = os::open_read(b"field.bin");
-    let reference = os::open_read(b"reference.bin");
-    let map = os::open_read(b"map.bin");
-    let samples = os::open_read(b"samples.bin");
-    session::desk::run(field, reference, map, samples, STDOUT_FILENO);
-    libc::close(field);
-    libc::close(reference);
-    libc::close(map);
-    libc::close(samples);
+    session::desk::run(
+        b"field.bin",
+        b"reference.bin",
+        b"map.bin",
+        b"samples.bin",
+        STDOUT_FILENO,
+    );
+    // some systems tell only here that what was written didn't arrive; an output that was closed from the start is told by its write
+    if libc::close(STDOUT_FILENO) < 0 && os::errno() != libc::EBADF {
+        os::fail(b"standard output: it can't be closed, so lines may be lost");
+    }
 }

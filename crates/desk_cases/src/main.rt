@@ -7,9 +7,9 @@ fn digit(n: u8) -> u8 {
     b'0' + n % 10
 }
 
-// Opens a case's file by its kind's letter and its number. No file has the number 255: it is missing.
-fn open(kind: u8, number: u8) -> i32 {
-    os::open_read(&[kind, digit(number / 100), digit(number / 10), digit(number)])
+// The name of a case's file: its kind's letter and its number. No file has the number 255: it is missing.
+fn name(kind: u8, number: u8) -> [u8; 4] {
+    [kind, digit(number / 100), digit(number / 10), digit(number)]
 }
 
 fn write_heading(number: u64) {
@@ -20,15 +20,13 @@ fn write_heading(number: u64) {
 
 // Runs the desk on the files that a case names by their numbers: two dumps, a map and a log.
 fn run_case(case: &[u8; CASE_BYTES]) {
-    let field = open(b'd', case[0]);
-    let reference = open(b'd', case[1]);
-    let map = open(b'm', case[2]);
-    let samples = open(b's', case[3]);
-    session::desk::run(field, reference, map, samples, STDOUT_FILENO);
-    libc::close(field);
-    libc::close(reference);
-    libc::close(map);
-    libc::close(samples);
+    session::desk::run(
+        &name(b'd', case[0]),
+        &name(b'd', case[1]),
+        &name(b'm', case[2]),
+        &name(b's', case[3]),
+        STDOUT_FILENO,
+    );
 }
 
 // Runs the next case, and tells whether there was one.
