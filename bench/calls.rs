@@ -1,4 +1,4 @@
-//! The calls of a shared object: ours, or the crate's behind the same names. Every call goes through a pointer that is found when the
+//! The calls of a shared object: ours, or esp-hal's behind the same names. Every call goes through a pointer that is found when the
 //! program runs, so no side can be compiled into the loop that times it.
 use std::ffi::{c_char, c_int, c_void, CString};
 use std::mem;
@@ -69,7 +69,7 @@ impl Calls {
     }
 }
 
-/// A build of the crate: its calls, and what only it has.
+/// A build of esp-hal: its calls, and what only it has.
 pub struct Crate {
     pub calls: Calls,
     /// The same calls with our two tests in front of `convert`.
@@ -86,7 +86,7 @@ impl Crate {
         Self { calls, tested, new_cal: object.find("new_cal"), load: object.find("load") }
     }
 
-    /// Makes the words the crate's dump, and the number its C6's minor block version.
+    /// Makes the words esp-hal's dump, and the number its C6's minor block version.
     pub fn load(&self, dump: &[u32; 88], minor: u8) {
         (self.load)(dump.as_ptr(), minor);
     }

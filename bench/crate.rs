@@ -1,5 +1,5 @@
-//! The crate's own functions behind the calls of include/suongkivat.h: the same names, structs by value and lent lists, so that they
-//! are called just as ours are. Nothing is checked and nothing refused, as in the crate. Built once for each build of the crate.
+//! esp-hal's own functions behind the calls of include/suongkivat.h: the same names, structs by value and lent lists, so that they
+//! are called just as ours are. Nothing is checked and nothing refused, as in esp-hal. Built once for each build of esp-hal.
 use std::slice;
 
 use esp32::analog::adc::{AdcCalLine, AdcCalScheme};
@@ -17,7 +17,7 @@ use suongkivat::raw::{
 
 const NONE: SkvRefusal = SkvRefusal { number: 0 };
 
-/// What has to be done before fields are read: the crate's dump is one memory, and so is a C6's version.
+/// What has to be done before fields are read: esp-hal's dump is one memory, and so is a C6's version.
 #[no_mangle]
 pub unsafe extern "C" fn load(dump: *const u32, minor: u8) {
     let words = &*dump.cast::<oracle::Dump>();
@@ -45,7 +45,7 @@ fn decoded<ADCX>(line: AdcCalLine<ADCX>) -> SkvDecoded {
     SkvDecoded { refusal: NONE, record: SkvLineRecord { coeff_a, coeff_b, vref, unit, use_lut: use_lut.into() } }
 }
 
-/// `new_cal`, with its fields where they stand in the crate.
+/// `new_cal`, with its fields where they stand in esp-hal.
 #[no_mangle]
 pub extern "C" fn new_cal(unit: u8, atten: u8) -> SkvDecoded {
     let atten = esp32::reach::attenuation(atten);

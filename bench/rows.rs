@@ -99,14 +99,14 @@ impl Bench {
         }
     }
 
-    /// Makes a dump the crate's, in each build. A C6 takes its second table.
+    /// Makes a dump esp-hal's, in each build. A C6 takes its second table.
     fn load(&self, dump: &[u32; 88]) {
         for build in [&self.release, &self.checked, &self.whole] {
             build.load(dump, 2);
         }
     }
 
-    /// A work against the crate's three builds; the bars are for the first two.
+    /// A work against esp-hal's three builds; the bars are for the first two.
     fn all<A: Clone + PartialEq>(&self, work: String, bars: [Option<f64>; 2], blank: &[A], how: Work<A>) -> Row {
         let ours: Way<A> = &|out| how(&self.ours, out);
         let release: Way<A> = &|out| how(&self.release.calls, out);
@@ -115,8 +115,8 @@ impl Bench {
         let Outcome { nanoseconds, mut ratios } = contest(&work, blank, ours, &[release, checked, whole]);
         let whole = ratios.pop();
         let mut held = ratios.into_iter().zip(bars).map(|(ratio, bar)| Held { ratio, bar });
-        let release = held.next().expect("the crate's");
-        Row { work, against: "the crate", nanoseconds, release, checked: held.next(), whole }
+        let release = held.next().expect("esp-hal's");
+        Row { work, against: "esp-hal", nanoseconds, release, checked: held.next(), whole }
     }
 
     /// Fields of a dump of mixed bits.
@@ -133,7 +133,7 @@ impl Bench {
         })
     }
 
-    /// Decoding each unit at each attenuation, by a map; and against the crate's alone, whose fields hold then what the map's did.
+    /// Decoding each unit at each attenuation, by a map; and against esp-hal's alone, whose fields hold then what the map's did.
     fn decode(&self, name: &str, dump: &[u32; 88]) -> [Row; 2] {
         self.load(dump);
         let map = &self.map;
@@ -174,7 +174,7 @@ impl Bench {
         };
         let plain = self.all(work.clone(), [Some(bar), Some(BEATEN)], &blank, how);
         let ways: [Way<SkvVoltage>; 2] = [&|out| how(&self.ours, out), &|out| how(&self.release.tested, out)];
-        [plain, one(work, "the crate, with our two tests", Some(tested_bar), &blank, ways)]
+        [plain, one(work, "esp-hal, with our two tests", Some(tested_bar), &blank, ways)]
     }
 
     /// The whole table, in stretches of that many counts.
