@@ -1,5 +1,6 @@
 pub mod Answers
 pub mod Conversions
+pub mod DemandThree
 pub mod Fills
 pub mod Points
 pub mod Ramps

@@ -1,4 +1,5 @@
 pub mod Convert
+pub mod DemandThree
 pub mod Fill
 pub mod Lookup
 pub mod Record
