@@ -11,7 +11,9 @@ use Rattle.line.specs.Record.{recordRefusal}
 use Rattle.line.specs.Convert.{answerAt, valueOf, convertOf}
 use Rattle.line.specs.Stretches.{Stretch, covered}
 use Rattle.line.specs.DemandThree.{millivolts, DemandThree}
-use Rattle.line.proofs.Conversions.{convert-exactly, convert-voltage}
+use Rattle.line.specs.When.{good-record, good-raw}
+use Rattle.line.proofs.Conversions.{convert-voltage}
+use Rattle.line.proofs.Exactly.{convert-exactly}
 use Rattle.line.proofs.Records.{record-sound}
 use Rattle.line.proofs.Rising.{lookup-rises, blend-between, blend-starts, blend-ends, plain-rises}
 use Rattle.line.proofs.Stretches.{covered-below, walked-length, walked-at}
@@ -19,7 +21,7 @@ use Rattle.line.proofs.Stretches.{covered-below, walked-length, walked-
 module _ (cal : LineRecord) (accepted : recordRefusal cal ≡ 0) where
   -- a count up to 4095 isn't refused
   voltage : {mv : ℕ} (k : ℕ) → k ≤ 4095 → mv ≡ answerAt cal k → convertOf cal k ≡ Voltage (record { 0 = mv })
-  voltage k h e = sym (convert-voltage cal k (convert-exactly cal k .good .1 (record-sound cal accepted, h)) e)
+  voltage k h e = sym (convert-voltage cal k (convert-exactly cal k 0 .1 (good-raw (good-record (record-sound cal accepted)) h)) e)
 
   answer-is : (k : ℕ) → k ≤ 4095 → millivolts cal k ≡ answerAt cal k
   answer-is k h = ap valueOf (voltage k h refl)

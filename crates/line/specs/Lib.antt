@@ -5,3 +5,4 @@ pub mod Lookup
 pub mod Record
 pub mod Stretches
 pub mod Walk
+pub mod When
