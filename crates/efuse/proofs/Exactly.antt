@@ -8,13 +8,13 @@ use Prim.Native.Nat.{ℕ, _+_, _*_}
 use lib.ListN.{length}
 use lib.Dec.{eqb}
 use denote.Ref.{now}
-use borrow.Author.Tests.{eq-eqb, ne-eqb, lt-ltb, le-ltb, eqb-true, eqb-false, not-false}
+use borrow.Author.Tests.{eq-eqb, ne-eqb, lt-ltb, le-ltb, eqb-true, not-false}
 use Rattle.terms.specs.declared.chip.MapChip.{MapChip}
 use Rattle.terms.specs.Exactly.{Exactly}
 use Rattle.terms.specs.Refuse.{firstOf}
 use Rattle.terms.specs.When.{UnitWhen, bad-unit, good-unit, FirstWhen}
 use Rattle.terms.proofs.Exactly.{Some, exactly, case, by-first, unit-exactly, first-exactly}
-use Rattle.terms.proofs.Order.{either, whether}
+use Rattle.terms.proofs.Order.{either, equal-or}
 use Rattle.terms.proofs.Refusals.{refuse-none}
 use Rattle.efuse.specs.declared.field.EfuseField.{EfuseField}
 use Rattle.efuse.specs.Field.{placeRefusal, readRefusal}
@@ -28,10 +28,6 @@ use Rattle.efuse.specs.When.{MapWhen, bad-length, records, FieldsWhen, f
 use Rattle.efuse.specs.When.{DecodingWhen, decode-short, decode-unit, decode-map}
 use Rattle.efuse.proofs.Maps.{record-id, record-stray, record-place, record-count, map-length, map-records}
 use Rattle.efuse.proofs.Places.{inside-place}
-
--- two numbers are equal, or they aren't
-equal-or : {P : Type 0} (a b : ℕ) → (a ≡ b → P) → ((a ≡ b → ⊥) → P) → P
-equal-or a b f g = whether (eqb a b) (λ t. f (eqb-true _ _ t)) (λ t. g (eqb-false _ _ t))
 
 module _ (words : ℕ → ℕ) where
   -- a field's place

@@ -1,3 +1,4 @@
 pub mod Characterize
 pub mod Code
 pub mod Decode
+pub mod When
