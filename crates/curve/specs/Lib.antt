@@ -3,3 +3,4 @@ pub mod Curves
 pub mod Decimal
 pub mod Flat
 pub mod Table
+pub mod When

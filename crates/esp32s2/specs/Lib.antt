@@ -5,3 +5,4 @@ pub mod Reference
 pub mod Table
 pub mod Tag
 pub mod Version
+pub mod When
