@@ -6,8 +6,7 @@ use Rattle.terms.specs.declared.chip.MapChip.{MapChip}
 use Rattle.terms.specs.Refuse.{outcomeOf}
 use Rattle.terms.specs.Refuse.{numberOf as numberOut}
 use Rattle.terms.specs.Says.{Says}
-use Rattle.terms.proofs.Refusals.{outcome-number}
-use Rattle.terms.proofs.Says.{Paper, says}
+use Rattle.terms.proofs.Says.{Paper, says, outcome-says}
 use Rattle.efuse.specs.declared.field.EfuseField.{EfuseField}
 use Rattle.efuse.specs.declared.field.Read.the-variants.{Value, Refused}
 use Rattle.efuse.specs.Field.{readRefusal, fieldBits, numberOf, valueOf, readOf}
@@ -25,9 +24,9 @@ module _ (words : ℕ → ℕ) (dump : List ℕ) (f : EfuseField) where
 
   -- `read_field_le`: what it writes is its only value
   pub read-le-says : numberOut (outcomeOf (readRefusal words dump f)) ≡ readRefusal words dump f
-  read-le-says = outcome-number _
+  read-le-says = outcome-says _
 
 -- `check_map`, which has no values
 pub check-map-says : (words : ℕ → ℕ) (chip : MapChip) (map : List ℕ)
     → numberOut (outcomeOf (mapRefusal words chip map)) ≡ mapRefusal words chip map
-check-map-says words chip map = outcome-number _
+check-map-says words chip map = outcome-says _

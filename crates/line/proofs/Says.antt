@@ -4,8 +4,7 @@ use Prim.Native.Nat.{ℕ}
 use Rattle.terms.specs.Refuse.{outcomeOf}
 use Rattle.terms.specs.Refuse.{numberOf as numberOut}
 use Rattle.terms.specs.Says.{Says}
-use Rattle.terms.proofs.Refusals.{outcome-number}
-use Rattle.terms.proofs.Says.{Paper, says}
+use Rattle.terms.proofs.Says.{Paper, says, outcome-says}
 use Rattle.line.specs.declared.record.LineRecord.{LineRecord}
 use Rattle.line.specs.declared.convert.Converted.the-variants.{Voltage, Refused}
 use Rattle.line.specs.Record.{recordRefusal}
@@ -24,8 +23,8 @@ module _ (r : LineRecord) where
 
   -- `check_record`, which has no values
   pub check-record-says : numberOut (outcomeOf (recordRefusal r)) ≡ recordRefusal r
-  check-record-says = outcome-number _
+  check-record-says = outcome-says _
 
   -- `fill`: what it writes is its only value
   pub fill-says : (first n : ℕ) → numberOut (outcomeOf (fillRefusal r first n)) ≡ fillRefusal r first n
-  fill-says first n = outcome-number _
+  fill-says first n = outcome-says _
