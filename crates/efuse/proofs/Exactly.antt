@@ -1,6 +1,6 @@
 -- Each number of field reading, the view, a map and what goes by it is given exactly when: each case gives its number by the laws of the
 -- refusals, and the tests leave no other case. Assumes nothing.
-use mathlib.Core.Path.{_≡_, refl, sym, _∙_, ap}
+use mathlib.Core.Path.{_≡_, refl, sym, _∙_}
 use mathlib.Core.Bool.{not}
 use mathlib.Core.Logic.{inl, inr}
 use mathlib.Core.List.{List}

@@ -1,15 +1,11 @@
 -- Demand 3 as one theorem: the laws of stretches and of rising answers, said of `convert`'s own answer. Assumes nothing.
 use mathlib.Core.Path.{_≡_, refl, sym, _∙_, ap}
-use mathlib.Core.Bool.{true}
-use mathlib.Core.List.{List}
-use Prim.Native.Nat.{ℕ, _≤_, _<_}
-use native.Mathlib.Nat.{le-trans}
+use Prim.Native.Nat.{ℕ, _≤_}
 use native.Mathlib.Omega.{arith}
 use Rattle.line.specs.declared.record.LineRecord.{LineRecord}
 use Rattle.line.specs.declared.convert.Converted.the-variants.{Voltage}
 use Rattle.line.specs.Record.{recordRefusal}
 use Rattle.line.specs.Convert.{answerAt, valueOf, convertOf}
-use Rattle.line.specs.Stretches.{Stretch, covered}
 use Rattle.line.specs.DemandThree.{millivolts, DemandThree}
 use Rattle.line.specs.When.{good-record, good-raw}
 use Rattle.line.proofs.Conversions.{convert-voltage}

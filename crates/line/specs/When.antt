@@ -1,6 +1,5 @@
 -- Document 01, "Numbers given when a call is turned down": when the record check, converting and filling give each number.
 -- A case says too that nothing before it in the call's order is given; 0 is given where the call isn't turned down.
-use mathlib.Core.Path.{_≡_}
 use Prim.Native.Nat.{ℕ, _+_, _≤_, _<_}
 use Rattle.line.specs.declared.record.LineRecord.{LineRecord}
 
