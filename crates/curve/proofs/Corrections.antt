@@ -1,10 +1,8 @@
 -- Laws of the correction: which case an answer is, and that no cast loses anything. Assumes nothing.
 use mathlib.Core.Path.{_≡_, sym, _∙_, ap}
 use mathlib.Core.Bool.{true, false}
-use mathlib.Core.List.{List}
-use Prim.Native.Nat.{ℕ, _^_, _≤_, _<_}
+use Prim.Native.Nat.{ℕ, _≤_, _<_}
 use native.Mathlib.Omega.{arith}
-use lib.IntN.{pos, _-ℤ_}
 use Rattle.terms.specs.declared.chip.Chip.{Chip}
 use Rattle.terms.specs.declared.unit.Millivolt.{Millivolt}
 use Rattle.terms.specs.Refuse.{unitRefusal}
@@ -12,28 +10,30 @@ use Rattle.terms.specs.When.{UnitWhen}
 use Rattle.terms.proofs.Exactly.{unit-exactly}
 use Rattle.terms.proofs.Refusals.{orElse-some, answered-good, answered-refused}
 use Rattle.curve.specs.declared.correct.Corrected.the-variants.{Answer, Refused}
-use Rattle.curve.specs.Decimal.{Decimal}
 use Rattle.curve.specs.Table.{tableOf, missing, curveIn}
-use Rattle.curve.specs.Correct.{errorOf, correctedOf, correctRefusal, correctOf}
+use Rattle.curve.specs.Correct.{correctedOf, correctRefusal, correctOf}
 use Rattle.curve.specs.Flat.{numbered}
+use Rattle.curve.specs.NothingLost.{NothingLost}
 use Rattle.curve.specs.When.{no-curve, line-above, corrected}
-use Rattle.curve.proofs.Answers.{error-exact}
+use Rattle.curve.proofs.Answers.{curve-steps, error-exact}
 use Rattle.curve.proofs.Exactly.{correct-exactly, correct-accepted}
 use Rattle.curve.proofs.Tables.{numbered-some, numbered-none, table-number, number-below}
 
 module _ (chip : Chip) (unit atten : ℕ) (line : Millivolt) where
-  -- the answer of a call that isn't turned down is the line answer less the error, which isn't negative and fits 16 bits: the definition's and the code's casts lose
-  -- nothing
-  pub nothing-lost : correctRefusal chip unit atten line ≡ 0
-      → let curve : List Decimal = curveIn (tableOf chip unit) atten in
-      (pos (correctedOf curve (line .0)) ≡ pos (line .0) -ℤ errorOf curve (line .0)) × (correctedOf curve (line .0) < 2 ^ 16)
+  -- of a call that isn't turned down nothing overflows, and the definition's and the code's casts lose nothing
+  pub nothing-lost : correctRefusal chip unit atten line ≡ 0 → NothingLost (curveIn (tableOf chip unit) atten) (line .0)
   unfolding correctedOf
   nothing-lost e =
       let good = correct-accepted chip unit atten line e in
       let number = table-number chip unit in
       let known = number-below (number .0) (rw (number .1) (good .1)) in
       let exact = error-exact (number .0) atten known (good .0 .1) (line .0) (good .2) in
-      rw (← number .1) (sym (exact .whole), exact .small)
+      rw (← number .1)
+      (record {
+        steps = λ some. curve-steps (number .0) atten known (good .0 .1) (line .0) some (good .2);
+        whole = sym (exact .whole);
+        small = exact .small;
+      })
 
   -- which case an answer is, as a `return` asks it
   pub correct-unit : {n : ℕ} → n ≡ unitRefusal unit atten → (n ≡ 0 → ⊥)

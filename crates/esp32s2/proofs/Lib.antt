@@ -8,5 +8,6 @@ pub mod Ranges
 pub mod Readings
 pub mod Rule
 pub mod Says
+pub mod TableRule
 pub mod Tags
 pub mod Unique
