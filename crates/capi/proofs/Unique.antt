@@ -4,7 +4,7 @@ use mathlib.Core.Path.{sym, _∙_}
 use mathlib.Core.List.{List}
 use Prim.Native.Nat.{ℕ}
 use denote.Ref.{now}
-use Rattle.terms.proofs.OneAnswer.{OneAnswer}
+use Rattle.terms.specs.OneAnswer.{OneAnswer}
 use Rattle.capi.specs.declared.answer.SkvOutcome.{SkvOutcome}
 use Rattle.capi.proofs.field.skv_read_field_u8.Reads as skv-read-field-u8
 use Rattle.capi.proofs.field.skv_read_field_u16.Reads as skv-read-field-u16

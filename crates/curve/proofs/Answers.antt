@@ -15,9 +15,9 @@ use Rattle.curve.specs.Decimal.{Decimal, coefficient}
 use Rattle.curve.specs.Table.{curveIn}
 use Rattle.curve.specs.Correct.{horner, errorOf}
 use Rattle.curve.specs.Flat.{numbered, curveOf}
+use Rattle.curve.specs.NothingLost.{Steps}
 use Rattle.curve.proofs.Parts.{curve-of}
 use Rattle.curve.proofs.Sound.{curves-sound}
-use Rattle.curve.proofs.Spans.{Steps}
 
 -- the error of a line answer of 0, and of any other: an empty table's polynomial is 0
 pub error-zero : (curve : List Decimal) → errorOf curve 0 ≡ pos 0
@@ -80,6 +80,9 @@ module _ (table atten : ℕ) (known : table < 10) (inside : atten ≤ 3) where
   pub error-by : (v : ℕ) {p : ℤ} → (v ≡ 0 → ⊥) → p ≡ horner (curveOf (4 * table + atten)) v
       → quotZ p (pos (2 ^ 52)) ≡ errorOf curve v
   error-by v some is = rw (is, curve-of table atten (omega arith)) (sym (error-quot curve v some))
+
+  pub curve-steps : (v : ℕ) → 0 < v → v ≤ 4095 → Steps (map coefficient curve) v
+  curve-steps v some most = rw (← curve-of table atten (omega arith)) (curves-sound (4 * table + atten) (omega arith) .0 v some most)
 
   pub error-exact : (v : ℕ) → v ≤ 4095 → Exact v (errorOf curve v)
   error-exact zero most = rw (error-zero curve) (exact 0 (pos 0) (omega arith) (omega arith) (omega arith))

@@ -1,7 +1,9 @@
 pub mod Answers
 pub mod Corrections
 pub mod Doubles
+pub mod Exactly
 pub mod Parts
+pub mod Says
 pub mod Sound
 pub mod Spans
 pub mod Tables

@@ -7,7 +7,8 @@ use Rattle.terms.proofs.Check.{Check, by, also, rule}
 use Rattle.terms.proofs.Order.{either}
 use Rattle.curve.specs.Decimal.{nearest, doublings, scaled, magnitude, coefficient}
 use Rattle.curve.specs.Flat.{curves, curveOf}
-use Rattle.curve.proofs.Spans.{Over, Steps, Below, steady, room}
+use Rattle.curve.specs.NothingLost.{Steps}
+use Rattle.curve.proofs.Spans.{Over, Below, steady, room}
 
 abbrev halves : {P : ℕ → Type 0} → Check (Over 1 2047 P) → Check (Over 2048 4095 P) → Check (Over 1 4095 P)
 halves lower upper = by (λ p v least most. either v 2047 (p .0 v least) (λ h. p .1 v h most)) (also lower upper)

@@ -6,13 +6,13 @@ use Prim.Native.Nat.{ℕ, zero, suc, _+_, _*_, _≤_, _<_, _^_}
 use native.Mathlib.Nat.{mul-le-mul-left, mul-le-mul-right, add-mul}
 use native.Mathlib.Omega.{arith}
 use lib.IntN.{ℤ, pos, _+ℤ_, _-ℤ_, _*ℤ_}
-use lib.ListN.{length, drop}
 use mir.Syntax.{w64}
 use mir.Val.{SFits}
 use Rattle.terms.proofs.Check.{Check, by, plain, also, at-most}
 use Rattle.terms.proofs.Difference.{less, minus, times}
 use Rattle.terms.proofs.Whole.{up, dn, sum-is, up-times, dn-times, fits-by, _≼_, up-most, dn-most}
 use Rattle.curve.specs.Correct.{horner}
+use Rattle.curve.specs.NothingLost.{Steps}
 
 pub record Span : Type 0 where
   pub low : ℤ
@@ -88,10 +88,6 @@ abbrev fits : (s : Span) → Check ((z : ℤ) → Within z s → SFits w64 z)
 fits s =
     by (λ p z h. fits-by w64 z (omega (arith, up-most z (s .high) (h .high))) (omega (arith, dn-most (s .low) z (h .low))))
     (also (at-most (suc (up (s .high))) (2 ^ 63)) (at-most (dn (s .low)) (2 ^ 63)))
-
--- each step's product and sum fit 64 bits
-abbrev pub Steps : List ℤ → ℕ → Type 0
-Steps cs v = (i : ℕ) → i < length cs → SFits w64 (horner (drop (suc i) cs) v *ℤ pos v) × SFits w64 (horner (drop i cs) v)
 
 pub one-step : (c : ℤ) (cs : List ℤ) (v : ℕ) → Steps cs v → SFits w64 (horner cs v *ℤ pos v) → SFits w64 (horner (c ∷ cs) v)
     → Steps (c ∷ cs) v

@@ -2,4 +2,6 @@ pub mod Correct
 pub mod Curves
 pub mod Decimal
 pub mod Flat
+pub mod NothingLost
 pub mod Table
+pub mod When

@@ -13,7 +13,8 @@ use Rattle.terms.specs.Sign.{signMagnitude}
 use Rattle.terms.proofs.Order.{either, picked}
 use Rattle.terms.proofs.Sign.{sign-plus, sign-minus, sign-fits}
 use Rattle.terms.proofs.Whole.{up, dn, sum-is, up-neg, dn-neg, up-times, dn-times, not-negative}
-use Rattle.esp32.specs.Code.{byUnit, stepped, vrefOf, wrapped, twoPointCode, pointOf, Coded, lowOf, highOf, Apart}
+use Rattle.esp32.specs.Code.{byUnit, stepped, vrefOf, wrapped, twoPointCode, pointOf, lowOf, highOf}
+use Rattle.esp32.specs.Private.{Coded, Apart}
 
 -- base + step × code, where it isn't negative
 module _ (base step : ℕ) (code : ℤ) (room : step * dn code ≤ base) where

@@ -10,9 +10,10 @@ use Rattle.terms.proofs.Refusals.{refuse-none}
 use Rattle.terms.proofs.Check.{Check, at-most, also, rule}
 use Rattle.esp32.specs.declared.characterize.Source.{Source}
 use Rattle.esp32.specs.declared.characterize.Source.the-variants.{TwoPoint, Vref}
-use Rattle.esp32.specs.Code.{lowOf, highOf, Apart}
+use Rattle.esp32.specs.Code.{lowOf, highOf}
 use Rattle.esp32.specs.Characterize.{tpScale, tpOffset, vrefScale, vrefOffset, twoPointA, topOf, twoPointB, topRefusal}
-use Rattle.esp32.specs.Characterize.{coefficientsOf, InBits}
+use Rattle.esp32.specs.Characterize.{coefficientsOf}
+use Rattle.esp32.specs.Private.{Apart, InBits}
 use Rattle.esp32.proofs.Codes.{points-apart}
 
 -- a unit's entries at the four attenuations are at most these

@@ -1,10 +1,9 @@
 -- Laws of decoding: which case its refusal is, what is known where nothing is refused, which case a decoding is, and that a
 -- decoded record passes the record check. Assumes nothing.
-use mathlib.Core.Path.{_≡_, refl, sym, _∙_, ap}
+use mathlib.Core.Path.{_≡_, sym, _∙_, ap}
 use mathlib.Core.List.{List}
 use Prim.Native.Nat.{ℕ, _≤_}
 use Rattle.terms.specs.declared.chip.MapChip.the-variants.{Esp32}
-use Rattle.terms.proofs.Answers.{Paper}
 use Rattle.terms.proofs.Refusals.{orElse-none, orElse-some, byNumber-good, byNumber-refused}
 use Rattle.efuse.specs.Decoding.{fieldsRefusal, decodingRefusal, valueAt}
 use Rattle.efuse.proofs.Decodings.{decoding-good}
@@ -14,16 +13,11 @@ use Rattle.esp32.specs.declared.decode.Decoded.the-variants.{Record, Ref
 use Rattle.line.specs.Record.{recordRefusal}
 use Rattle.esp32.specs.Code.{vrefOf}
 use Rattle.esp32.specs.Characterize.{sourceRefusal}
-use Rattle.esp32.specs.Decode.{sourceOf, foundOf, decodedRecord, decodeRefusal, numberOf, valueOf, noRecord, decodeOf}
+use Rattle.esp32.specs.Decode.{sourceOf, foundOf, decodedRecord, decodeRefusal, decodeOf}
 use Rattle.line.proofs.Records.{record-good}
 use Rattle.esp32.proofs.Codes.{vref-range}
 use Rattle.esp32.proofs.Coefficients.{line-ranges}
 use Rattle.esp32.proofs.Sources.{vref-fits}
-
--- the number and the record of a decoding are document 01's
-pub decoded-paper : Paper numberOf valueOf noRecord Record Refused
-decoded-paper =
-    record { good-number = λ v. refl; good-value = λ v. refl; refused-number = λ r. refl; refused-value = λ r. refl }
 
 module _ (words : ℕ → ℕ) (dump map : List ℕ) (unit atten : ℕ) where
   abbrev input : ℕ

@@ -2,5 +2,6 @@ pub mod Codes
 pub mod Coefficients
 pub mod Decoding
 pub mod Exactly
+pub mod Says
 pub mod Sources
 pub mod Unique

@@ -14,7 +14,7 @@ use Rattle.efuse.proofs.Decodings.{value-fits, value-is}
 use Rattle.esp32.specs.declared.characterize.Source.{Source}
 use Rattle.esp32.specs.declared.characterize.Source.the-variants.{TwoPoint, Vref}
 use Rattle.esp32.specs.Code.{byUnit}
-use Rattle.esp32.specs.Characterize.{InBits}
+use Rattle.esp32.specs.Private.{InBits}
 use Rattle.esp32.specs.Decode.{twoPointUsed, lowBits, highBits, sourceOf}
 use Rattle.esp32.proofs.Codes.{by-unit}
 

@@ -1,6 +1,6 @@
 -- Each public call's promise, as the check reads it from the source, admits one answer per input: it is an equation. Assumes nothing.
 use mathlib.Core.Path.{sym, _∙_}
-use Rattle.terms.proofs.OneAnswer.{OneAnswer}
+use Rattle.terms.specs.OneAnswer.{OneAnswer}
 use Rattle.esp32.proofs.decode.decode.Reads as decode
 use Rattle.esp32.proofs.decode.number_of.Reads as number-of
 

@@ -2,7 +2,7 @@
 -- In the crate: `characterize_using_two_point` and `characterize_using_vref` of calibration/line/esp32.rs, which cites ESP-IDF's
 -- components/esp_adc/esp32/adc_cali_line_fitting.c, line 155.
 use mathlib.Core.List.{List, [], _∷_}
-use Prim.Native.Nat.{ℕ, _+_, _*_, _-_, _/_, _<_}
+use Prim.Native.Nat.{ℕ, _+_, _*_, _-_, _/_}
 use lib.ListN.{getD}
 use lib.Dec.{ltb}
 use Rattle.terms.specs.Refuse.{refuse}
@@ -61,8 +61,3 @@ coefficientsOf unit atten vref Vref = vrefLine unit atten vref
 unfoldable pub sourceRefusal : ℕ → Source → ℕ
 sourceRefusal unit (TwoPoint low high) = topRefusal (topOf (lowOf unit low) (highOf unit high))
 sourceRefusal unit Vref = 0
-
--- What private functions ask of a source: codes that "7 and 9 bits" can hold
-abbrev pub InBits : Source → Type 0
-InBits (TwoPoint low high) = (low < 128) × (high < 512)
-InBits Vref = Unit

@@ -2,7 +2,7 @@
 -- `read_efuse_tp_low` and `read_efuse_tp_high` of calibration/line/esp32.rs, which cites ESP-IDF's
 -- components/esp_adc/esp32/adc_cali_line_fitting.c, line 155.
 use mathlib.Core.Bool.{cond}
-use Prim.Native.Nat.{ℕ, _+_, _*_, _-_, _%_, _^_, _≤_, _<_}
+use Prim.Native.Nat.{ℕ, _-_, _%_, _^_}
 use lib.Dec.{ltb, eqb}
 use lib.IntN.{ℤ, pos, negℤ, natAbs, _+ℤ_, _*ℤ_}
 use Rattle.terms.specs.Sign.{signMagnitude}
@@ -40,17 +40,3 @@ lowOf unit bits = pointOf (byUnit unit 278 421) 7 bits
 -- "high = 3265 or 3406 + 4 × code"
 unfoldable pub highOf : ℕ → ℕ → ℕ
 highOf unit bits = pointOf (byUnit unit 3265 3406) 9 bits
-
--- What private functions ask of their arguments, which every field and unit keeps.
--- A code of that width, at a base that it doesn't take below zero
-pub record Coded (base width bits : ℕ) : Type 0 where
-  pub some : 1 ≤ width
-  pub short : width ≤ 9
-  pub inside : bits < 2 ^ width
-  pub room : 4 * 2 ^ (width - 1) ≤ base
-  pub most : base ≤ 3406
-
--- A unit's points: "d = high − low (never below 1713)", and the largest high is 3406 + 4 × 255
-pub record Apart (low high : ℕ) : Type 0 where
-  pub least : low + 1713 ≤ high
-  pub most : high ≤ 4426

@@ -1,3 +1,5 @@
 pub mod Characterize
 pub mod Code
 pub mod Decode
+pub mod Private
+pub mod When

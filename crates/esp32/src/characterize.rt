@@ -5,9 +5,9 @@ ghost use mathlib.Core.Path.{_≡_};
 ghost use mathlib.Core.List.{[], _∷_};
 ghost use Prim.Native.Nat.{_≤_};
 ghost use lib.ListN.{getD};
-ghost use Rattle.esp32.specs.Code.{Apart};
+ghost use Rattle.esp32.specs.Private.{Apart, InBits};
 ghost use Rattle.esp32.specs.Characterize.{tpScale, tpOffset, vrefScale, vrefOffset, twoPointA, topOf, twoPointB};
-ghost use Rattle.esp32.specs.Characterize.{topRefusal, twoPointLine, vrefLine, coefficientsOf, sourceRefusal, InBits};
+ghost use Rattle.esp32.specs.Characterize.{topRefusal, twoPointLine, vrefLine, coefficientsOf, sourceRefusal};
 
 const TP_LOW_VOLTAGE: u32 = 150;
 

@@ -1,5 +1,4 @@
--- Laws of the C6's codes: which case their refusal is, 12 in both directions, what is known where none is given, and that every code
--- fits. Assumes nothing.
+-- Laws of the C6's codes: which case their refusal is, what is known where none is given, and that every code fits. Assumes nothing.
 use mathlib.Core.Path.{_≡_, refl, sym, _∙_, ap}
 use mathlib.Core.List.{List}
 use Prim.Native.Nat.{ℕ, _+_, _^_, _≤_, _<_}
@@ -17,7 +16,6 @@ use Rattle.terms.proofs.Whole.{up, dn, sum-is, not-negative}
 use Rattle.efuse.specs.Decoding.{fieldsRefusal, decodingRefusal}
 use Rattle.efuse.proofs.Decodings.{decoding-good}
 use Rattle.esp32c6.specs.Code.{versionRefusal, codeRefusal, offsetOf}
-use Rattle.esp32c6.proofs.Versions.{version-refused, version-good}
 
 module _ (words : ℕ → ℕ) (dump map : List ℕ) (minor unit atten : ℕ) where
   -- which case the refusal of a code is
@@ -29,15 +27,6 @@ module _ (words : ℕ → ℕ) (dump map : List ℕ) (minor unit atten : ℕ) wh
     pub code-version : n ≡ 0 → codeRefusal words dump map minor unit atten ≡ versionRefusal minor
     unfolding codeRefusal
     code-version z = simp (sym e ∙ z)
-
-  -- of what isn't refused before it, 12 is given for minor block version 0, and for no other
-  pub code-twelve : decodingRefusal words C6 dump map unit atten ≡ 0 → minor ≡ 0
-      → codeRefusal words dump map minor unit atten ≡ 12
-  code-twelve e z = code-version refl e ∙ ap versionRefusal z ∙ version-refused
-
-  pub code-given : decodingRefusal words C6 dump map unit atten ≡ 0 → 1 ≤ minor
-      → codeRefusal words dump map minor unit atten ≡ 0
-  code-given e h = code-version refl e ∙ version-good minor h
 
   -- where none is given, the fields may be read
   pub code-good : codeRefusal words dump map minor unit atten ≡ 0 → (fieldsRefusal words C6 dump map ≡ 0) × (atten ≤ 3)

@@ -1,7 +1,8 @@
-pub mod Answers
 pub mod Channels
 pub mod Codes
+pub mod Exactly
 pub mod Fields
 pub mod Ranges
+pub mod Says
 pub mod Unique
 pub mod Versions

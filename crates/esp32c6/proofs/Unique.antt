@@ -1,7 +1,7 @@
 -- Each public call's promise, as the check reads it from the source, admits one answer per input: it is an equation.
 -- Assumes nothing.
 use mathlib.Core.Path.{sym, _∙_}
-use Rattle.terms.proofs.OneAnswer.{OneAnswer}
+use Rattle.terms.specs.OneAnswer.{OneAnswer}
 use Rattle.esp32c6.proofs.version.rtc_calib_version.Reads as rtc-calib-version
 use Rattle.esp32c6.proofs.code.rtc_calib_init_code.Reads as rtc-calib-init-code
 use Rattle.esp32c6.proofs.code.rtc_calib_cal_code.Reads as rtc-calib-cal-code

@@ -1,5 +1,4 @@
--- Laws of the S2's codes: which case their refusal is, 12 in both directions, and what is known where none is given.
--- Assumes nothing.
+-- Laws of the S2's codes: which case their refusal is, and what is known where none is given. Assumes nothing.
 use mathlib.Core.Path.{_≡_, sym, _∙_}
 use mathlib.Core.List.{List}
 use Prim.Native.Nat.{ℕ, _≤_}
@@ -18,7 +17,7 @@ module _ (words : ℕ → ℕ) (dump map : List ℕ) (unit atten : ℕ) where
     unfolding codeRefusal
     code-decoding h = rw (← e) (sym (orElse-some n _ h))
 
-    -- of what isn't refused before it, 12 is given where the version isn't 2, and only there
+    -- of what isn't refused before it, by the version
     module _ (z : n ≡ 0) {version : ℕ} (v : version ≡ versionOf dump map) where
       pub code-twelve : (version ≡ 2 → ⊥) → 12 ≡ codeRefusal words dump map unit atten
       unfolding codeRefusal

@@ -1,11 +1,13 @@
-pub mod Answers
 pub mod Chains
 pub mod Codes
+pub mod Exactly
 pub mod Fields
 pub mod Fits
 pub mod Ones
 pub mod Ranges
 pub mod Readings
 pub mod Rule
+pub mod Says
+pub mod TableRule
 pub mod Tags
 pub mod Unique

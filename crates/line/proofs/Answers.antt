@@ -11,7 +11,7 @@ use Rattle.line.specs.declared.record.LineRecord.{LineRecord}
 use Rattle.line.specs.Record.{usesLookup}
 use Rattle.line.specs.Lookup.{lookupVoltage}
 use Rattle.line.specs.Convert.{lineVoltage, blendOf, beyondLine, answerAt}
-use Rattle.line.proofs.Records.{InRanges}
+use Rattle.line.specs.When.{InRanges}
 use Rattle.line.proofs.Sums.{voltage-is, sum-most}
 
 -- the blend is a mean of its two ends, and so within what they are

@@ -1,13 +1,10 @@
--- Laws of the fill: each of its refusals is given exactly when document 01 says, which case a fill is, and what a table of one count
--- holds. Assumes nothing.
+-- Laws of the fill: which case a fill is, and what a table of one count holds. Assumes nothing.
 use mathlib.Core.Path.{_≡_, sym, _∙_}
 use mathlib.Core.List.{List, [], _∷_}
-use Prim.Native.Nat.{ℕ, _+_, _≤_, _<_}
+use Prim.Native.Nat.{ℕ, _+_, _≤_}
 use native.Mathlib.Nat.{add-zero}
 use native.Mathlib.Omega.{arith}
 use lib.ListN.{length, getD}
-use lib.Dec.{ltb}
-use borrow.Author.Tests.{lt-ltb, le-ltb, ltb-true, ltb-false}
 use Rattle.terms.specs.declared.refusal.Outcome.the-variants.{Good, Refused}
 use Rattle.terms.specs.Refuse.{outcomeOf}
 use Rattle.terms.proofs.Refusals.{byNumber-good, byNumber-refused}
@@ -15,15 +12,8 @@ use Rattle.terms.proofs.Tab.{tab-at}
 use Rattle.line.specs.declared.record.LineRecord.{LineRecord}
 use Rattle.line.specs.Convert.{answerAt}
 use Rattle.line.specs.Fill.{fillRefusal, answersFrom, filled}
-use Rattle.line.proofs.Records.{InRanges, Exactly, exactly}
-
--- 10: line record outside its ranges
--- 11: a stretch whose first count plus length is above 4096
-pub fill-exactly : (r : LineRecord) (first n : ℕ) → Exactly r 11 (4096 < first + n) (first + n ≤ 4096) (fillRefusal r first n)
-unfolding fillRefusal
-fill-exactly r first n =
-    exactly r 11 (λ e. omega arith) (λ e. omega arith) (ltb 4096 (first + n))
-    (ltb-true 4096 (first + n), lt-ltb 4096 (first + n)) (ltb-false 4096 (first + n), le-ltb 4096 (first + n))
+use Rattle.line.specs.When.{InRanges, good-record, good-stretch}
+use Rattle.line.proofs.Exactly.{fill-exactly}
 
 -- which case a fill is, as a `return` asks it
 module _ (r : LineRecord) (first : ℕ) (lent : List ℕ) where
@@ -40,5 +30,5 @@ module _ (r : LineRecord) (first : ℕ) (lent : List ℕ) where
 pub filled-one : (r : LineRecord) (raw was : ℕ) → InRanges r → raw ≤ 4095 → getD (filled r raw (was ∷ [])) 0 0 ≡ answerAt r raw
 unfolding filled
 filled-one r raw was ranges h =
-    let none : fillRefusal r raw 1 ≡ 0 = fill-exactly r raw 1 .good .1 (ranges, omega arith) in
+    let none : fillRefusal r raw 1 ≡ 0 = fill-exactly r raw 1 0 .1 (good-stretch (good-record ranges) (omega arith)) in
     rw (byNumber-good _ _ _ none, tab-at (λ k. answerAt r (raw + k)) 1 0 (omega arith), add-zero)

@@ -1,10 +1,13 @@
 pub mod Answers
 pub mod Conversions
+pub mod DemandThree
+pub mod Exactly
 pub mod Fills
 pub mod Points
 pub mod Ramps
 pub mod Records
 pub mod Rising
+pub mod Says
 pub mod Segments
 pub mod Stretches
 pub mod Sums

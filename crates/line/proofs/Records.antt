@@ -1,24 +1,15 @@
--- Laws of the record check: a record is refused, with 10, exactly where it is outside its ranges; and the refusals of a call that
--- checks a record and then one thing more. Assumes nothing.
-use mathlib.Core.Path.{_≡_, refl, sym, _∙_}
-use mathlib.Core.Bool.{Bool, true, false, _||_, true≢false}
-use mathlib.Core.Logic.{_↔_, _⊎_, inl, inr, ⊎-elim}
-use Prim.Native.Nat.{ℕ, _≤_}
-use native.Mathlib.Omega.{arith}
+-- Laws of the record check: what isn't refused is inside its ranges, and what is inside isn't refused. Assumes nothing.
+use mathlib.Core.Path.{_≡_, refl}
+use mathlib.Core.Bool.{Bool, true, false, _||_}
+use mathlib.Core.Logic.{_⊎_, inl, inr}
+use Prim.Native.Nat.{ℕ}
 use lib.Dec.{ltb}
 use borrow.Author.Tests.{ltb-false, le-ltb}
-use Rattle.terms.specs.Refuse.{refuse, orElse}
-use Rattle.terms.proofs.Order.{whether}
+use Rattle.terms.specs.Refuse.{refuse}
 use Rattle.terms.proofs.Refusals.{refuse-none, or-none}
 use Rattle.line.specs.declared.record.LineRecord.{LineRecord}
 use Rattle.line.specs.Record.{recordRefusal}
-
-pub record InRanges (r : LineRecord) : Type 0 where
-  pub a : r .«coeff_a» ≤ 131071
-  pub b : r .«coeff_b» ≤ 4095
-  pub vref-least : 995 ≤ r .vref
-  pub vref-most : r .vref ≤ 1205
-  pub unit : r .unit ≤ 1
+use Rattle.line.specs.When.{InRanges}
 
 -- a test with a number before others that give it or none
 one-number : (t : Bool) (n : ℕ) {after : ℕ} → (after ≡ 0) ⊎ (after ≡ n) → (refuse t n after ≡ 0) ⊎ (refuse t n after ≡ n)
@@ -48,50 +39,11 @@ module _ (r : LineRecord) where
   record-good h =
       simp (le-ltb _ _ (h .a), le-ltb _ _ (h .b), le-ltb _ _ (h .vref-least), le-ltb _ _ (h .vref-most), le-ltb _ _ (h .unit))
 
-  record-number : (recordRefusal r ≡ 0) ⊎ (recordRefusal r ≡ 10)
+  -- it gives no other number
+  pub record-number : (recordRefusal r ≡ 0) ⊎ (recordRefusal r ≡ 10)
   unfolding recordRefusal
   record-number =
       one-number (ltb 131071 (r .«coeff_a»)) 10
       (one-number (ltb 4095 (r .«coeff_b»)) 10
       (one-number (ltb (r .vref) 995 || ltb 1205 (r .vref)) 10
       (one-number (ltb 1 (r .unit)) 10 (inl refl))))
-
--- the refusal of a call that checks the record and then one thing more, with number n, is given exactly when
-pub record Exactly (r : LineRecord) (n : ℕ) (Bad Good : Type 0) (number : ℕ) : Type 0 where
-  pub outside : (number ≡ 10) ↔ (InRanges r → ⊥)
-  pub bad : (number ≡ n) ↔ (InRanges r × Bad)
-  pub good : (number ≡ 0) ↔ (InRanges r × Good)
-
-module _ (r : LineRecord) (n : ℕ) (some : n ≡ 0 → ⊥) (other : n ≡ 10 → ⊥) (t : Bool)
-    {Bad Good : Type 0} (bad : (t ≡ true) ↔ Bad) (good : (t ≡ false) ↔ Good) where
-  by-case : (P : ℕ → Type 0) → ((InRanges r → ⊥) → P 10) → (InRanges r → t ≡ true → P n) → (InRanges r → t ≡ false → P 0)
-      → P (orElse (recordRefusal r) (refuse t n 0))
-  by-case P outside second none =
-      ⊎-elim
-      (λ (e : recordRefusal r ≡ 0).
-      whether t (λ i. rw (e, i) (second (record-sound r e) i)) (λ i. rw (e, i) (none (record-sound r e) i)))
-      (λ (e : recordRefusal r ≡ 10). rw e (outside (λ p. let z : _≡_ {A = ℕ} 0 10 = sym (record-good r p) ∙ e in omega arith)))
-      (record-number r)
-
-  -- a test that fails and one that holds
-  never : {A : Type 0} → t ≡ true → t ≡ false → A
-  never p q = absurd (true≢false (sym p ∙ q))
-
-  pub exactly : Exactly r n Bad Good (orElse (recordRefusal r) (refuse t n 0))
-  exactly =
-      record {
-        outside = (
-          by-case (λ m. m ≡ 10 → InRanges r → ⊥) (λ no e. no) (λ p i e. absurd (other e)) (λ p i e. absurd (omega arith)),
-          λ no. by-case (λ m. m ≡ 10) (λ q. refl) (λ p i. absurd (no p)) (λ p i. absurd (no p)),
-        );
-        bad = (
-          by-case (λ m. m ≡ n → InRanges r × Bad)
-              (λ no e. absurd (other (sym e))) (λ p i e. (p, bad .0 i)) (λ p i e. absurd (some (sym e))),
-          λ q. by-case (λ m. m ≡ n) (λ no. absurd (no (q .0))) (λ p i. refl) (λ p i. never (bad .1 (q .1)) i),
-        );
-        good = (
-          by-case (λ m. m ≡ 0 → InRanges r × Good)
-              (λ no e. absurd (omega arith)) (λ p i e. absurd (some e)) (λ p i e. (p, good .0 i)),
-          λ q. by-case (λ m. m ≡ 0) (λ no. absurd (no (q .0))) (λ p i. never i (good .1 (q .1))) (λ p i. refl),
-        );
-      }

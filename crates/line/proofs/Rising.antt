@@ -10,8 +10,8 @@ use Rattle.line.specs.Record.{usesLookup}
 use Rattle.line.specs.Lookup.{lookupVoltage}
 use Rattle.line.specs.Convert.{lineVoltage, answerAt}
 use Rattle.line.specs.Walk.{pointAt, lookupSum}
+use Rattle.line.specs.When.{InRanges}
 use Rattle.line.proofs.Answers.{beyond-plain, answer-line, answer-blend, answer-upper, blend-first, blend-within}
-use Rattle.line.proofs.Records.{InRanges}
 use Rattle.line.proofs.Sums.{around, voltage-is}
 
 line-rises : (r : LineRecord) {c d : ℕ} → c ≤ d → lineVoltage r c ≤ lineVoltage r d

@@ -12,8 +12,8 @@ use Rattle.line.specs.declared.record.LineRecord.{LineRecord}
 use Rattle.line.specs.declared.ramp.Slope.{Slope}
 use Rattle.line.specs.Lookup.{lookupNumerator, lookupVoltage}
 use Rattle.line.specs.Walk.{pointAt, along, lookupSum, LutSlope}
+use Rattle.line.specs.When.{InRanges}
 use Rattle.line.proofs.Points.{point-is, point-most, points-rise}
-use Rattle.line.proofs.Records.{InRanges}
 
 -- from p to q over 64 counts, y of them gone
 abbrev pub mean : ℕ → ℕ → ℕ → ℕ

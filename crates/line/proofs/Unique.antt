@@ -5,7 +5,7 @@ use mathlib.Core.List.{List}
 use Prim.Native.Nat.{ℕ}
 use denote.Ref.{now}
 use Rattle.terms.specs.declared.refusal.Outcome.{Outcome}
-use Rattle.terms.proofs.OneAnswer.{OneAnswer}
+use Rattle.terms.specs.OneAnswer.{OneAnswer}
 use Rattle.line.proofs.record.line_record.Reads as line-record
 use Rattle.line.proofs.record.check_record.Reads as check-record
 use Rattle.line.proofs.convert.convert.Reads as convert

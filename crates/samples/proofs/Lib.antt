@@ -1,3 +1,5 @@
+pub mod Exactly
 pub mod Logs
 pub mod Samples
+pub mod Says
 pub mod Unique

@@ -1,6 +1,6 @@
 -- Each public call's promise, as the check reads it from the source, admits one answer: it is an equation. Assumes nothing.
 use mathlib.Core.Path.{sym, _∙_}
-use Rattle.terms.proofs.OneAnswer.{OneAnswer}
+use Rattle.terms.specs.OneAnswer.{OneAnswer}
 use Rattle.terms.proofs.bytes.u16_of.Reads as u16-of
 use Rattle.terms.proofs.bytes.u32_of.Reads as u32-of
 use Rattle.terms.proofs.refusal.outcome_of.Reads as outcome-of

@@ -1,4 +1,4 @@
--- A text, or a part of a table, written into lent memory.
+-- A text, or a part of a table, written into lent memory: what private functions promise of it. No public promise cites it.
 use mathlib.Core.Path.{_≡_}
 use mathlib.Core.List.{List, _++_}
 use Prim.Native.Nat.{ℕ, _+_, _≤_}

@@ -2,7 +2,7 @@
 use mathlib.Core.Path.{sym, _∙_}
 use borrow.Author.Needs.{needs}
 use Rattle.line.proofs.Answers.{answer-line}
-use Rattle.line.proofs.Conversions.{convert-exactly}
+use Rattle.line.proofs.Exactly.{convert-good}
 use Rattle.line.proofs.Records.{record-good}
 use Rattle.line.proofs.convert.answer.Statement.{statement}
 use Rattle.line.proofs.convert.answer.Tie as tie
@@ -18,7 +18,7 @@ returns c = c .upper-answer .ensures
 
 calculate-voltage-linear-requires : tie.Need-calculate-voltage-linear-requires
 calculate-voltage-linear-requires c κs =
-    let good = convert-exactly _ _ .good .0 (c .before .before .pre) in
+    let good = convert-good _ _ (c .before .before .pre) in
     (record-good _ (good .0), good .1)
 
 returns-2 : tie.Need-returns-2

@@ -3,7 +3,8 @@ use mathlib.Core.Path.{sym, _∙_}
 use native.Mathlib.Omega.{arith}
 use borrow.Author.Needs.{needs}
 use Rattle.line.proofs.Answers.{answer-most}
-use Rattle.line.proofs.Conversions.{convert-exactly, convert-voltage, convert-refused}
+use Rattle.line.proofs.Conversions.{convert-voltage, convert-refused}
+use Rattle.line.proofs.Exactly.{convert-good}
 use Rattle.line.proofs.convert.convert.Statement.{statement}
 use Rattle.line.proofs.convert.convert.Tie as tie
 
@@ -21,7 +22,7 @@ answer-requires c κs = sym (c .before .convert-refusal .ensures) ∙ c .if1 .le
 
 cast-mv : tie.Need-cast-mv
 cast-mv c =
-    let good = convert-exactly _ _ .good .0 (sym (c .before .before .convert-refusal .ensures) ∙ c .before .if1 .left) in
+    let good = convert-good _ _ (sym (c .before .before .convert-refusal .ensures) ∙ c .before .if1 .left) in
     omega (arith, c .answer .ensures, answer-most _ (good .0) _ (good .1))
 
 returns-2 : tie.Need-returns-2

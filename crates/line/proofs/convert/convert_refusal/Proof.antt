@@ -3,7 +3,8 @@ use mathlib.Core.Path.{sym, _∙_}
 use borrow.Author.Needs.{needs}
 use Rattle.terms.proofs.Refusals.{orElse-some}
 use Rattle.line.specs.Convert.{convertRefusal}
-use Rattle.line.proofs.Conversions.{convert-exactly}
+use Rattle.line.specs.When.{good-record, bad-raw, good-raw}
+use Rattle.line.proofs.Exactly.{convert-exactly}
 use Rattle.line.proofs.Records.{record-sound}
 use Rattle.line.proofs.convert.convert_refusal.Statement.{statement}
 use Rattle.line.proofs.convert.convert_refusal.Tie as tie
@@ -18,12 +19,12 @@ returns c = rw (← c .before .record-refusal .ensures) (sym (orElse-some _ _ (c
 returns-2 : tie.Need-returns-2
 returns-2 c =
     let ranges = record-sound _ (sym (c .before .before .record-refusal .ensures) ∙ c .before .if1 .left) in
-    sym (convert-exactly _ _ .bad .1 (ranges, c .if2 .taken))
+    sym (convert-exactly _ _ 8 .1 (bad-raw (good-record ranges) (c .if2 .taken)))
 
 returns-3 : tie.Need-returns-3
 returns-3 c =
     let ranges = record-sound _ (sym (c .before .before .record-refusal .ensures) ∙ c .before .if1 .left) in
-    sym (convert-exactly _ _ .good .1 (ranges, c .if2 .left))
+    sym (convert-exactly _ _ 0 .1 (good-raw (good-record ranges) (c .if2 .left)))
 
 pub convert-refusal-spec : {M : Type 1} → statement M
 convert-refusal-spec = tie.close (tie.spec record-refusal-requires returns returns-2 returns-3)

@@ -2,14 +2,14 @@
 use mathlib.Core.Path.{sym, _∙_}
 use native.Mathlib.Omega.{arith}
 use Rattle.line.proofs.Answers.{beyond-line, answer-blend, answer-lookup, line-most, lookup-most}
-use Rattle.line.proofs.Conversions.{convert-exactly}
+use Rattle.line.proofs.Exactly.{convert-good}
 use Rattle.line.proofs.Records.{record-good}
 use Rattle.line.proofs.convert.upper_answer.Statement.{statement}
 use Rattle.line.proofs.convert.upper_answer.Tie as tie
 
 calculate-voltage-lut-requires : tie.Need-calculate-voltage-lut-requires
 calculate-voltage-lut-requires c κs =
-    let good = convert-exactly _ _ .good .0 (c .pre .0) in
+    let good = convert-good _ _ (c .pre .0) in
     (record-good _ (good .0), beyond-line _ _ (c .pre .1) .1, good .1)
 
 returns : tie.Need-returns
@@ -19,7 +19,7 @@ returns c =
 
 calculate-voltage-linear-requires : tie.Need-calculate-voltage-linear-requires
 calculate-voltage-linear-requires c κs =
-    let good = convert-exactly _ _ .good .0 (c .before .before .pre .0) in
+    let good = convert-good _ _ (c .before .before .pre .0) in
     (record-good _ (good .0), good .1)
 
 sub-interpolate-two-points : tie.Need-sub-interpolate-two-points
@@ -28,7 +28,7 @@ sub-interpolate-two-points c = beyond-line _ _ (c .before .before .before .pre .
 interpolate-two-points-requires : tie.Need-interpolate-two-points-requires
 interpolate-two-points-requires c κs =
     let p = c .before .before .before .pre in
-    let good = convert-exactly _ _ .good .0 (p .0) in
+    let good = convert-good _ _ (p .0) in
     let past = beyond-line _ _ (p .1) in
     let line = line-most _ (good .0) _ (good .1) in
     let lut = lookup-most _ (good .0) _ (past .1) (good .1) in

@@ -8,7 +8,7 @@ use borrow.Author.Needs.{needs}
 use Rattle.terms.proofs.Parts.{fill-part}
 use Rattle.terms.proofs.Tab.{Filled, fill-start, fill-done}
 use Rattle.line.specs.Convert.{answerAt}
-use Rattle.line.proofs.Fills.{fill-exactly}
+use Rattle.line.proofs.Exactly.{fill-good}
 use Rattle.line.proofs.Records.{record-good}
 use Rattle.line.proofs.Segments.{segment-ends}
 use Rattle.line.proofs.fill.fill_answers.Statement.{statement}
@@ -26,7 +26,7 @@ loop-holds c = fill-start _
 -- a count of the stretch
 inside : (c : tie.In-loop Inv-loop μ-loop) → c .before .before .before .args .first + c .before .loop .at ≤ 4095
 inside c =
-    let good = fill-exactly _ _ _ .good .0 (c .before .before .before .pre) in
+    let good = fill-good _ _ _ (c .before .before .before .pre) in
     omega (arith, c .before .loop .inv .same)
 
 cast-count : tie.Need-cast-count Inv-loop μ-loop
@@ -65,7 +65,7 @@ part-fill-segment-end c = search needs
 fill-segment-requires : tie.Need-fill-segment-requires Inv-loop μ-loop
 fill-segment-requires c κs =
     let p = c .before .before in
-    let good = fill-exactly _ _ _ .good .0 (p .before .before .before .before .pre) in
+    let good = fill-good _ _ _ (p .before .before .before .before .pre) in
     (record-good _ (good .0), inside (p .before), simp (length-take, length-drop) (omega (arith, p .segment-left .ensures)))
 
 loop-again : tie.Need-loop-again Inv-loop μ-loop

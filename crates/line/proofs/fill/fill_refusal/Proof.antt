@@ -4,7 +4,8 @@ use native.Mathlib.Omega.{arith}
 use borrow.Author.Needs.{needs}
 use Rattle.terms.proofs.Refusals.{orElse-some}
 use Rattle.line.specs.Fill.{fillRefusal}
-use Rattle.line.proofs.Fills.{fill-exactly}
+use Rattle.line.specs.When.{good-record, bad-stretch, good-stretch}
+use Rattle.line.proofs.Exactly.{fill-exactly}
 use Rattle.line.proofs.Records.{record-sound}
 use Rattle.line.proofs.fill.fill_refusal.Statement.{statement}
 use Rattle.line.proofs.fill.fill_refusal.Tie as tie
@@ -19,7 +20,7 @@ returns c = rw (← c .before .record-refusal .ensures) (sym (orElse-some _ _ (c
 returns-2 : tie.Need-returns-2
 returns-2 c =
     let ranges = record-sound _ (sym (c .before .before .record-refusal .ensures) ∙ c .before .if1 .left) in
-    sym (fill-exactly _ _ _ .bad .1 (ranges, omega arith))
+    sym (fill-exactly _ _ _ 11 .1 (bad-stretch (good-record ranges) (omega arith)))
 
 cast-if3 : tie.Need-cast-if3
 cast-if3 c = search needs
@@ -28,13 +29,13 @@ returns-3 : tie.Need-returns-3
 returns-3 c =
     let p = c .before .before in
     let ranges = record-sound _ (sym (p .before .record-refusal .ensures) ∙ p .if1 .left) in
-    sym (fill-exactly _ _ _ .bad .1 (ranges, omega arith))
+    sym (fill-exactly _ _ _ 11 .1 (bad-stretch (good-record ranges) (omega arith)))
 
 returns-4 : tie.Need-returns-4
 returns-4 c =
     let p = c .before .before in
     let ranges = record-sound _ (sym (p .before .record-refusal .ensures) ∙ p .if1 .left) in
-    sym (fill-exactly _ _ _ .good .1 (ranges, omega arith))
+    sym (fill-exactly _ _ _ 0 .1 (good-stretch (good-record ranges) (omega arith)))
 
 pub fill-refusal-spec : {M : Type 1} → statement M
 fill-refusal-spec =

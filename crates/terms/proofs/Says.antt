@@ -1,9 +1,10 @@
--- Document 01's number and value of each case of an answer's enum are those that the answer was given, with zeros beside a refusal:
--- once for every enum. Assumes nothing.
-use mathlib.Core.Path.{_≡_}
+-- An answer says the number and the value that it was given, with zeros beside a refusal: once for every enum whose `numberOf` and
+-- `valueOf` read its two cases so. Assumes nothing.
+use mathlib.Core.Path.{_≡_, refl}
 use Prim.Native.Nat.{ℕ, zero, suc}
 use Rattle.terms.specs.declared.refusal.Refusal.{Refusal}
-use Rattle.terms.specs.Refuse.{byNumber, answered}
+use Rattle.terms.specs.Refuse.{answered, outcomeOf, numberOf}
+use Rattle.terms.specs.Says.{Says}
 
 -- an enum's case with values and its refusal, beside their number and value in document 01
 pub record Paper {A B : Type 0} (number : A → ℕ) (value : A → B) (zeros : B) (good : B → A) (refused : Refusal → A) : Type 0 where
@@ -14,10 +15,11 @@ pub record Paper {A B : Type 0} (number : A → ℕ) (value : A → B) (zeros : 
 
 module _ {A B : Type 0} {number : A → ℕ} {value : A → B} {zeros : B} {good : B → A} {refused : Refusal → A}
     (paper : Paper number value zeros good refused) where
-  pub answer-number : (n : ℕ) (v : B) → number (answered n (good v) refused) ≡ n
-  answer-number zero v = paper .good-number v
-  answer-number (suc n) v = paper .refused-number _
+  pub says : (n : ℕ) (v : B) → Says number value zeros (answered n (good v) refused) n v
+  says zero v = record { number-is = paper .good-number v; value-is = paper .good-value v }
+  says (suc n) v = record { number-is = paper .refused-number _; value-is = paper .refused-value _ }
 
-  pub answer-value : (n : ℕ) (v : B) → value (answered n (good v) refused) ≡ byNumber n v zeros
-  answer-value zero v = paper .good-value v
-  answer-value (suc n) v = paper .refused-value _
+-- an outcome has no values
+pub outcome-says : (n : ℕ) → numberOf (outcomeOf n) ≡ n
+outcome-says zero = refl
+outcome-says (suc n) = refl

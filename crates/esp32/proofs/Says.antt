@@ -1,0 +1,23 @@
+-- The number and the values of each answer are document 01's. Assumes nothing.
+use mathlib.Core.Path.{_≡_, refl}
+use mathlib.Core.List.{List}
+use Prim.Native.Nat.{ℕ}
+use Rattle.terms.specs.Says.{Says}
+use Rattle.terms.proofs.Says.{Paper, says}
+use Rattle.esp32.specs.declared.decode.Decoded.the-variants.{Record, Refused}
+use Rattle.esp32.specs.Decode.{decodedRecord, decodeRefusal, numberOf, noRecord, valueOf, decodeOf}
+
+pub decoded-paper : Paper numberOf valueOf noRecord Record Refused
+decoded-paper =
+    record { good-number = λ v. refl; good-value = λ v. refl; refused-number = λ r. refl; refused-value = λ r. refl }
+
+module _ (words : ℕ → ℕ) (dump map : List ℕ) (unit atten : ℕ) where
+  -- `decode`
+  pub decode-says : Says numberOf valueOf noRecord
+      (decodeOf words dump map unit atten) (decodeRefusal words dump map unit atten) (decodedRecord dump map unit atten)
+  unfolding decodeOf
+  decode-says = says decoded-paper _ _
+
+  -- `number_of` of what `decode` answers
+  pub number-of-says : numberOf (decodeOf words dump map unit atten) ≡ decodeRefusal words dump map unit atten
+  number-of-says = decode-says .number-is

@@ -1,0 +1,22 @@
+-- What private functions ask of their arguments, which every field and unit keeps. No public promise cites it.
+use Prim.Native.Nat.{ℕ, _+_, _*_, _-_, _^_, _≤_, _<_}
+use Rattle.esp32.specs.declared.characterize.Source.{Source}
+use Rattle.esp32.specs.declared.characterize.Source.the-variants.{TwoPoint, Vref}
+
+-- a code of that width, at a base that it doesn't take below zero
+pub record Coded (base width bits : ℕ) : Type 0 where
+  pub some : 1 ≤ width
+  pub short : width ≤ 9
+  pub inside : bits < 2 ^ width
+  pub room : 4 * 2 ^ (width - 1) ≤ base
+  pub most : base ≤ 3406
+
+-- a unit's points: "d = high − low (never below 1713)", and the largest high is 3406 + 4 × 255
+pub record Apart (low high : ℕ) : Type 0 where
+  pub least : low + 1713 ≤ high
+  pub most : high ≤ 4426
+
+-- a source's codes, which "7 and 9 bits" can hold
+abbrev pub InBits : Source → Type 0
+InBits (TwoPoint low high) = (low < 128) × (high < 512)
+InBits Vref = Unit

@@ -1,0 +1,24 @@
+-- Document 01, "Numbers given when a call is turned down": when decoding gives each number: "1, 7, 2, then map records first to last with
+-- 3, 4, 5, 6 within each, then .. 9". A case says too that nothing before it is given; 0 is given where decoding isn't turned down.
+use mathlib.Core.Path.{_≡_}
+use mathlib.Core.Bool.{true}
+use mathlib.Core.List.{List}
+use Prim.Native.Nat.{ℕ, _≤_, _<_}
+use Rattle.terms.specs.declared.chip.MapChip.the-variants.{Esp32}
+use Rattle.efuse.specs.When.{DecodingWhen}
+use Rattle.esp32.specs.Code.{lowOf, highOf}
+use Rattle.esp32.specs.Characterize.{topOf}
+use Rattle.esp32.specs.Decode.{twoPointUsed, lowBits, highBits}
+
+-- document 01's t of a unit
+abbrev pub topFor : List ℕ → List ℕ → ℕ → ℕ
+topFor dump map unit = topOf (lowOf unit (lowBits dump map unit)) (highOf unit (highBits dump map unit))
+
+-- 1, 7 and those of the map
+-- 9: "two-point coefficient underflow": "refusal 9 exactly if t > 850"
+pub data DecodeWhen (words : ℕ → ℕ) (dump map : List ℕ) (unit atten : ℕ) : ℕ → Type 0 where
+  before : {n : ℕ} → DecodingWhen words Esp32 dump map unit atten n → (n ≡ 0 → ⊥) → DecodeWhen words dump map unit atten n
+  underflow : DecodingWhen words Esp32 dump map unit atten 0 → twoPointUsed dump map ≡ true → 850 < topFor dump map unit
+      → DecodeWhen words dump map unit atten 9
+  decoded : DecodingWhen words Esp32 dump map unit atten 0 → (twoPointUsed dump map ≡ true → topFor dump map unit ≤ 850)
+      → DecodeWhen words dump map unit atten 0

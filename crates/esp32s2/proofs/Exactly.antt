@@ -1,0 +1,45 @@
+-- Each number of the S2's readings and codes is given exactly when. Assumes nothing.
+use mathlib.Core.Path.{_≡_, refl, sym}
+use mathlib.Core.List.{List}
+use Prim.Native.Nat.{ℕ}
+use lib.ListN.{length}
+use borrow.Author.Tests.{eq-eqb, ne-eqb}
+use Rattle.terms.specs.declared.chip.MapChip.the-variants.{S2}
+use Rattle.terms.specs.Exactly.{Exactly}
+use Rattle.terms.proofs.Exactly.{Some, exactly, case, by-first, unit-exactly}
+use Rattle.terms.proofs.Order.{equal-or}
+use Rattle.efuse.specs.Decoding.{decodingRefusal}
+use Rattle.efuse.specs.When.{DecodingWhen}
+use Rattle.efuse.proofs.Exactly.{decoding-exactly}
+use Rattle.esp32s2.specs.Version.{versionOf}
+use Rattle.esp32s2.specs.Reading.{readingRefusal}
+use Rattle.esp32s2.specs.Code.{codeRefusal}
+use Rattle.esp32s2.specs.When.{ReadingWhen, reading-short, reading-unit, CodeWhen, before, bad-version, good-version}
+use Rattle.esp32s2.proofs.Codes.{code-decoding, code-twelve, code-given}
+
+module _ (dump : List ℕ) (unit atten : ℕ) where
+  reading-gives : (n : ℕ) → ReadingWhen dump unit atten n → readingRefusal dump unit atten ≡ n
+  unfolding readingRefusal
+  reading-gives _ (reading-short d) = simp (ne-eqb _ _ d)
+  reading-gives n (reading-unit d u) = simp (eq-eqb _ _ d) (unit-exactly unit atten n .1 u)
+
+  reading-some : Some (ReadingWhen dump unit atten)
+  reading-some = equal-or (length dump) 88 (λ d. (_, reading-unit d (case (unit-exactly unit atten)))) (λ d. (1, reading-short d))
+
+  pub reading-exactly : Exactly (readingRefusal dump unit atten) (ReadingWhen dump unit atten)
+  reading-exactly = exactly reading-gives reading-some
+
+module _ (words : ℕ → ℕ) (dump map : List ℕ) (unit atten : ℕ) where
+  abbrev input : Exactly (decodingRefusal words S2 dump map unit atten) (DecodingWhen words S2 dump map unit atten)
+  input = decoding-exactly words S2 dump map unit atten
+
+  code-gives : (n : ℕ) → CodeWhen words dump map unit atten n → codeRefusal words dump map unit atten ≡ n
+  code-gives n (before k some) = sym (code-decoding _ _ _ _ _ (sym (input n .1 k)) some)
+  code-gives _ (bad-version k v) = sym (code-twelve _ _ _ _ _ refl (input 0 .1 k) refl v)
+  code-gives _ (good-version k v) = sym (code-given _ _ _ _ _ refl (input 0 .1 k) refl v)
+
+  version-some : DecodingWhen words S2 dump map unit atten 0 → Some (CodeWhen words dump map unit atten)
+  version-some k = equal-or (versionOf dump map) 2 (λ v. (0, good-version k v)) (λ v. (12, bad-version k v))
+
+  pub code-exactly : Exactly (codeRefusal words dump map unit atten) (CodeWhen words dump map unit atten)
+  code-exactly = exactly code-gives (by-first input version-some (λ n k some. (n, before k some)))

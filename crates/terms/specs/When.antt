@@ -1,0 +1,14 @@
+-- Document 01, "Numbers given when a call is turned down": when 7 is given, and when a run of records gives a number.
+use mathlib.Core.Path.{_≡_}
+use mathlib.Core.Logic.{_⊎_}
+use Prim.Native.Nat.{ℕ, _≤_, _<_}
+
+-- 7: "unit above 1 or attenuation above 3"
+pub data UnitWhen (unit atten : ℕ) : ℕ → Type 0 where
+  bad-unit : (1 < unit) ⊎ (3 < atten) → UnitWhen unit atten 7
+  good-unit : unit ≤ 1 → atten ≤ 3 → UnitWhen unit atten 0
+
+-- "records first to last": the number of the first that has a fault, all before it good; `When k` is when record k gives a number
+pub data FirstWhen (When : ℕ → ℕ → Type 0) (len : ℕ) : ℕ → Type 0 where
+  fault : {n : ℕ} (k : ℕ) → k < len → ((j : ℕ) → j < k → When j 0) → When k n → (n ≡ 0 → ⊥) → FirstWhen When len n
+  no-fault : ((k : ℕ) → k < len → When k 0) → FirstWhen When len 0
