@@ -162,9 +162,6 @@ SkvView skv_view(const uint32_t *field, size_t field_len, const uint32_t *refere
 /* Whether a map is its chip's. Refusals: the map's. No map is that of a chip other than ESP32, S2 and C6: 2. */
 SkvOutcome skv_check_map(uint8_t chip, const uint8_t *map, size_t map_len);
 
-/* The field of a map's record k, from 0 on; bytes past the map's end count as zero. No refusal. */
-SkvField skv_field_at(const uint8_t *map, size_t map_len, size_t k);
-
 /* ESP32 line calibration. */
 
 /* The line record of a unit at an attenuation. Refusals 1, 7, the map's, 9. */

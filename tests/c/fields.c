@@ -66,16 +66,9 @@ static uint8_t with_byte(int at, uint8_t value)
 void maps(void)
 {
     uint8_t map[C6_MAP];
-    SkvField f;
     esp32_map(map);
     CHECK(skv_check_map(SKV_ESP32, map, ESP32_MAP).refusal.number == 0);
     CHECK(skv_check_map(SKV_ESP32, map, ESP32_MAP - 1).refusal.number == SKV_MAP);
-    f = skv_field_at(map, ESP32_MAP, 4);
-    CHECK(f.block == 3 && f.bit_start == 20 && f.bit_count == 9);
-    f = skv_field_at(map, ESP32_MAP, 6);
-    CHECK(f.block == 0 && f.bit_start == 0 && f.bit_count == 0);
-    f = skv_field_at(map, ESP32_MAP, (size_t)-1);
-    CHECK(f.block == 0 && f.bit_start == 0 && f.bit_count == 0);
     s2_map(map);
     CHECK(skv_check_map(SKV_S2, map, S2_MAP).refusal.number == 0);
     CHECK(skv_check_map(SKV_ESP32, map, S2_MAP).refusal.number == SKV_MAP);

@@ -12,7 +12,6 @@ use Rattle.capi.proofs.field.skv_read_field_u32.Reads as skv-read-field
 use Rattle.capi.proofs.field.skv_read_field_le.Reads as skv-read-field-le
 use Rattle.capi.proofs.field.skv_view.Reads as skv-view
 use Rattle.capi.proofs.map.skv_check_map.Reads as skv-check-map
-use Rattle.capi.proofs.map.skv_field_at.Reads as skv-field-at
 use Rattle.capi.proofs.lines.skv_decode.Reads as skv-decode
 use Rattle.capi.proofs.lines.skv_check_record.Reads as skv-check-record
 use Rattle.capi.proofs.lines.skv_convert.Reads as skv-convert
@@ -55,9 +54,6 @@ skv-view-one κs a z z′ e e′ p q = p .0 ∙ sym (q .0)
 
 pub skv-check-map-one : OneAnswer (λ κs z e. z) skv-check-map.Post
 skv-check-map-one κs a z z′ e e′ p q = p ∙ sym q
-
-pub skv-field-at-one : OneAnswer (λ κs z e. z) skv-field-at.Post
-skv-field-at-one κs a z z′ e e′ p q = p ∙ sym q
 
 pub skv-decode-one : OneAnswer (λ κs z e. z) skv-decode.Post
 skv-decode-one κs a z z′ e e′ p q = p ∙ sym q

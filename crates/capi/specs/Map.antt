@@ -5,14 +5,9 @@ use Prim.Native.Nat.{ℕ}
 use lib.Dec.{eqb}
 use Rattle.terms.specs.declared.chip.MapChip.the-variants.{Esp32, S2, C6}
 use Rattle.terms.specs.Refuse.{outcomeOf}
-use Rattle.efuse.specs.declared.field.EfuseField.{EfuseField}
 use Rattle.efuse.specs.Map.{mapRefusal}
 use Rattle.capi.specs.declared.answer.SkvOutcome.{SkvOutcome}
-use Rattle.capi.specs.declared.field.SkvField.{SkvField}
 use Rattle.capi.specs.Answer.{outcomeC}
-
-abbrev pub fieldC : EfuseField → SkvField
-fieldC f = record { block = f .block; «bit_start» = f .«bit_start»; «bit_count» = f .«bit_count» }
 
 -- the refusal of a map for a chip's number, in the order of terms' `Chip`
 -- 2: the map's length isn't its chip's, which holds of any map where the chip has none

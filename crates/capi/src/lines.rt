@@ -84,15 +84,15 @@ const NO_RECORD: SkvLineRecord = SkvLineRecord {
 fn decoded_c(decoded: Decoded) -> SkvDecoded
     ensures { λ r. ⌜ r ≡ decodedC decoded ⌝ }
 {
-    match decoded {
-        Decoded::Record(cal) => SkvDecoded {
-            refusal: refusal_c(refusal::NONE),
-            record: record_c(cal),
-        },
-        Decoded::Refused(why) => SkvDecoded {
-            refusal: refusal_c(why.number),
+    let Decoded::Record(cal) = decoded else {
+        return SkvDecoded {
+            refusal: refusal_c(decode::number_of(decoded)),
             record: NO_RECORD,
-        },
+        };
+    };
+    SkvDecoded {
+        refusal: refusal_c(refusal::NONE),
+        record: record_c(cal),
     }
 }
 

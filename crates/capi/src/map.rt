@@ -2,26 +2,12 @@
 use crate::answer::SkvOutcome;
 use crate::answer::outcome_c;
 use crate::answer::refusal_c;
-use crate::field::SkvField;
-use efuse::field::EfuseField;
 use efuse::map;
 use terms::chip::MapChip;
 use terms::refusal;
 ghost use mathlib.Core.Path.{_≡_};
 ghost use Rattle.efuse.specs.Field.{eight};
-ghost use Rattle.efuse.specs.Map.{fieldOf};
-ghost use Rattle.capi.specs.Map.{fieldC, mapC};
-
-// What C is given of a field.
-fn field_c(field: EfuseField) -> SkvField
-    ensures { λ r. ⌜ r ≡ fieldC field ⌝ }
-{
-    SkvField {
-        block: field.block,
-        bit_start: field.bit_start,
-        bit_count: field.bit_count,
-    }
-}
+ghost use Rattle.capi.specs.Map.{mapC};
 
 // Good where the map is its chip's. Refusals 2, then records first to last with 3, 4, 5, 6 within each. No map is that of a chip
 // other than ESP32 (0), S2 (1) and C6 (4): then 2.
@@ -37,12 +23,4 @@ pub extern "C" fn skv_check_map(chip: u8, map: &[u8]) -> SkvOutcome
             refusal: refusal_c(refusal::MAP),
         },
     }
-}
-
-// The field of record k. Any k of any map is answered: bytes past the map's end count as zero.
-#[no_mangle]
-pub extern "C" fn skv_field_at(map: &[u8], k: usize) -> SkvField
-    ensures { λ r. ⌜ r ≡ fieldC (fieldOf (now (map .entry)) k) ⌝ }
-{
-    field_c(map::field_at(map, k))
 }

@@ -1,15 +1,17 @@
--- What the rule of the coefficients means: `nearest` is within a half, and even at a half; and for each of the 109 decimals but 0 it gives
--- 53 bits, no more and no fewer, so that it makes the nearest double. Assumes nothing.
-use mathlib.Core.Path.{_≡_, _∙_, ap}
+-- What the rule of the coefficients means: `nearest` is within a half, and even at a half; for each of the 109 decimals but 0 it gives
+-- 53 bits, no more and no fewer, so that it makes the nearest double; and the coefficient is that double times 2^52, cut.
+-- Assumes nothing.
+use mathlib.Core.Path.{_≡_, refl, _∙_, ap}
 use mathlib.Core.List.{flatten}
 use Prim.Native.Nat.{ℕ, zero, suc, _+_, _*_, _/_, _%_, _^_, _≤_, _<_}
-use native.Mathlib.Nat.{div-add-mod, mod-lt, mul-add, mul-one}
+use native.Mathlib.Nat.{div-add-mod, mod-lt, mul-add, mul-one, one-le-pow}
 use native.Mathlib.Omega.{arith}
+use lib.IntN.{ℤ, pos, negℤ}
 use lib.ListN.{getD}
 use borrow.Author.Tests.{lt-ltb, le-ltb}
 use Rattle.terms.proofs.Check.{Check, by, plain, also, at-most, rule}
 use Rattle.terms.proofs.Order.{either}
-use Rattle.curve.specs.Decimal.{Decimal, plus, minus, nearest, doublings}
+use Rattle.curve.specs.Decimal.{Decimal, plus, minus, nearest, doublings, scaled, magnitude, coefficient}
 use Rattle.curve.specs.Flat.{curves, decimals}
 
 -- q is within a half of n / d, and even where it is a half away
@@ -63,25 +65,53 @@ module _ (n d : ℕ) (some : 0 < d) where
       (λ more. rw (lt-ltb d (2 * r) more) (strictly n d (q + 1) (omega (arith, whole, next)) (omega (arith, whole, next))))))
       (λ few. rw (lt-ltb (2 * r) d few) (strictly n d q (omega (arith, whole)) (omega (arith, whole))))
 
--- the size of a decimal is digits / tens, and its double's is doubled over a power of two
-abbrev digits : Decimal → ℕ
+-- the size of a decimal is digits / tens, and its double's is doubled / 2 ^ power
+abbrev pub digits : Decimal → ℕ
 digits (plus n places) = n
 digits (minus n places) = n
 
-abbrev tens : Decimal → ℕ
+abbrev pub tens : Decimal → ℕ
 tens (plus n places) = 10 ^ places
 tens (minus n places) = 10 ^ places
 
-abbrev doubled : Decimal → ℕ
-doubled x = nearest (digits x * 2 ^ doublings 128 (digits x) (tens x)) (tens x)
+abbrev pub power : Decimal → ℕ
+power x = doublings 128 (digits x) (tens x)
+
+abbrev pub doubled : Decimal → ℕ
+doubled x = nearest (digits x * 2 ^ power x) (tens x)
+
+-- a size with the decimal's sign
+abbrev pub signed : Decimal → ℕ → ℤ
+signed (plus n places) size = pos size
+signed (minus n places) size = negℤ (pos size)
 
 abbrev has53 : (n q : ℕ) → Check (0 < n → (2 ^ 52 ≤ q) × (q < 2 ^ 53))
 has53 zero q = plain (λ h. absurd (omega arith))
 has53 (suc n) q = by (λ p h. p) (also (at-most (2 ^ 52) q) (at-most (suc q) (2 ^ 53)))
 
-abbrev decimal : ℕ → Decimal
+abbrev pub decimal : ℕ → Decimal
 decimal i = getD decimals i (plus 0 0)
 
 pub all-53 : (i : ℕ) → i < 109 → 0 < digits (decimal i) → (2 ^ 52 ≤ doubled (decimal i)) × (doubled (decimal i) < 2 ^ 53)
 unfolding decimals curves flatten nearest doublings
 all-53 = rule (λ i. has53 (digits (decimal i)) (doubled (decimal i))) 109 tt
+
+-- a coefficient and its decimal: the double has 53 bits, is the nearest to the decimal, even at a tie, and is cut
+pub record FromDouble (x : Decimal) : Type 0 where
+  pub bits : (2 ^ 52 ≤ doubled x) × (doubled x < 2 ^ 53)
+  pub double : Nearest (digits x * 2 ^ power x) (tens x) (doubled x)
+  pub cut : coefficient x ≡ signed x (doubled x * 2 ^ 52 / 2 ^ power x)
+
+tens-some : (x : Decimal) → 0 < tens x
+tens-some (plus n places) = one-le-pow places 10 (omega arith)
+tens-some (minus n places) = one-le-pow places 10 (omega arith)
+
+cut-is : (x : Decimal) → coefficient x ≡ signed x (doubled x * 2 ^ 52 / 2 ^ power x)
+unfolding coefficient magnitude scaled
+cut-is (plus n places) = refl
+cut-is (minus n places) = refl
+
+pub coefficient-is : (i : ℕ) → i < 109 → 0 < digits (decimal i) → FromDouble (decimal i)
+coefficient-is i h some =
+    let x : Decimal = decimal i in
+    record { bits = all-53 i h some; double = nearest-is (digits x * 2 ^ power x) (tens x) (tens-some x); cut = cut-is x }

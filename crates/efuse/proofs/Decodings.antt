@@ -20,6 +20,11 @@ use Rattle.efuse.proofs.Places.{read-value}
 use Rattle.efuse.proofs.Maps.{count-range, record-good, map-record, map-read}
 
 module _ (words : ℕ → ℕ) (chip : MapChip) (dump map : List ℕ) where
+  -- 1 is given before whatever else is wrong
+  pub fields-dump : (length dump ≡ 88 → ⊥) → 1 ≡ fieldsRefusal words chip dump map
+  unfolding fieldsRefusal
+  fields-dump h = simp (ne-eqb _ _ h)
+
   -- a dump and a map that aren't refused
   pub fields-good : fieldsRefusal words chip dump map ≡ 0 → (length dump ≡ 88) × (mapRefusal words chip map ≡ 0)
   unfolding fieldsRefusal

@@ -60,7 +60,6 @@ module _ (words : ℕ → ℕ) (dump map : List ℕ) (unit atten : ℕ) where
   unfolding decodedRecord foundOf
   decoded-passes e =
       let good = decode-good e in
-      let u = good .1 .0 in
       let vref = vref-range (vref-fits words dump map (good .0)) in
-      let line = line-ranges unit atten (vrefOf (valueAt Esp32 dump map 1)) (sourceOf dump map unit) u (good .1 .1) (vref .1) in
-      record-good _ (record { a = line .0; b = line .1; vref-least = vref .0; vref-most = vref .1; unit = u })
+      let line = line-ranges unit atten (vrefOf (valueAt Esp32 dump map 1)) (sourceOf dump map unit) (vref .1) in
+      record-good _ (record { a = line .0; b = line .1; vref-least = vref .0; vref-most = vref .1; unit = good .1 .0 })

@@ -18,7 +18,7 @@ use Rattle.efuse.proofs.Bits.{bits-lt}
 use Rattle.esp32s2.specs.declared.table.RtcCalibEntry.{RtcCalibEntry}
 use Rattle.esp32s2.specs.Table.{beginBit, bitLength, multiplier, base, depends, entryAt, along, rankOf}
 use Rattle.esp32s2.specs.Reading.{termOf, within, readingOf}
-use Rattle.esp32s2.proofs.Rule.{spanOf, upBase, dnBase, Rule, rule-of}
+use Rattle.esp32s2.proofs.Rule.{spanOf, upBase, dnBase, Spread, Rule, rule-of}
 
 -- z is at most s from 0
 pub record Near (s : ℕ) (z : ℤ) : Type 0 where
@@ -131,11 +131,11 @@ module _ (dump : List ℕ) (skip : Bool) where
         (λ some.
         (let r = rule-of tag some h in
         let l = lies 4 tag h (r .four) in
-        not-negative (within 4 dump skip tag) (omega (arith, r .least))))
+        not-negative (within 4 dump skip tag) (omega (arith, r .between .least))))
 
-    pub reading-range : (tag ≡ 0 → ⊥) → (577 ≤ up (readingOf dump skip tag)) × (up (readingOf dump skip tag) ≤ 7986)
+    pub reading-range : (tag ≡ 0 → ⊥) → {low high : ℕ} → Spread low high tag
+        → (low ≤ up (readingOf dump skip tag)) × (up (readingOf dump skip tag) ≤ high)
     unfolding readingOf
-    reading-range some =
-        let r = rule-of tag some h in
-        let l = lies 4 tag h (r .four) in
-        omega (arith, r .least, r .most, ap dn reading-whole)
+    reading-range some s =
+        let l = lies 4 tag h (rule-of tag some h .four) in
+        omega (arith, s .least, s .most, ap dn reading-whole)

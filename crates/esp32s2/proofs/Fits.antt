@@ -14,7 +14,7 @@ use Rattle.terms.proofs.Whole.{up, sum-is, up-le, dn-le, fits-by}
 use Rattle.efuse.specs.Field.{bitsOf}
 use Rattle.esp32s2.specs.Table.{beginBit, bitLength, multiplier, base, depends, entryAt}
 use Rattle.esp32s2.specs.Reading.{termOf, readingOf}
-use Rattle.esp32s2.proofs.Rule.{Rule}
+use Rattle.esp32s2.proofs.Rule.{Rule, rule-of}
 use Rattle.esp32s2.proofs.Chains.{span-small, product-near, term-near, reading-none, reading-step, reading-whole, reading-range}
 
 module _ (tag : ℕ) (r : Rule tag) where
@@ -48,7 +48,7 @@ module _ (dump : List ℕ) (skip : Bool) (tag : ℕ) (h : tag < 33) where
   reading-small =
       zero-or tag
       (λ e. rw (e, reading-none dump skip) (omega arith))
-      (λ some. omega (arith, reading-range dump skip tag h some))
+      (λ some. omega (arith, reading-range dump skip tag h some (rule-of tag some h .between)))
 
   pub reading-fits : SFits w32 (readingOf dump skip tag)
   reading-fits = rw (reading-whole dump skip tag h) (record { sfits = omega (arith, reading-small) })

@@ -1,65 +1,94 @@
--- The range of every answer that isn't refused: a reading is from 577 to 7986, or 0 where version and parameter don't pair; a code is
--- from 577 to 7986. Assumes nothing.
-use mathlib.Core.Path.{_≡_, sym, _∙_, ap}
+-- The range of every answer that isn't refused: a reading is from 577 to 7986, or 0 where version and parameter don't pair; an initial
+-- code is from 1265 to 2127, and a reference code from 4321 to 7986. Assumes nothing.
+use mathlib.Core.Path.{_≡_, refl, sym, _∙_, ap}
 use mathlib.Core.Bool.{Bool, false}
 use mathlib.Core.List.{List}
-use Prim.Native.Nat.{ℕ, _≤_}
+use Prim.Native.Nat.{ℕ, _+_, _*_, _≤_, _<_}
 use native.Mathlib.Omega.{arith}
 use lib.IntN.{ℤ, pos, natAbs}
+use Rattle.terms.proofs.Check.{rule}
 use Rattle.terms.proofs.Whole.{up}
 use Rattle.esp32s2.specs.declared.tag.RtcCalibParam.{RtcCalibParam}
 use Rattle.esp32s2.specs.declared.tag.RtcCalibParam.the-variants.{Vhigh, Vinit}
+use Rattle.esp32s2.specs.Table.{calibMap, entryAt, along}
 use Rattle.esp32s2.specs.Reading.{readingOf}
 use Rattle.esp32s2.specs.Tag.{byVersion, firstTag, tagOf}
-use Rattle.esp32s2.specs.Code.{codeRefusal, valueOf, codeOf}
+use Rattle.esp32s2.specs.Code.{codeRefusal, valueOf, codeOf, initCodeOf, calCodeOf}
+use Rattle.esp32s2.proofs.Rule.{Spread, spread, rule-of}
 use Rattle.esp32s2.proofs.Chains.{reading-none, reading-whole, reading-range}
 use Rattle.esp32s2.proofs.Codes.{code-good}
-use Rattle.esp32s2.proofs.Tags.{tag-in-table, tag-none, tag-some}
+use Rattle.esp32s2.proofs.Tags.{tag-in-table, tag-none, tag-some, tag-is}
 
--- from 577 to 7986
-pub record Between (z : ℤ) : Type 0 where
+pub record Between (low high : ℕ) (z : ℤ) : Type 0 where
   pub whole : z ≡ pos (natAbs z)
-  pub least : 577 ≤ natAbs z
-  pub most : natAbs z ≤ 7986
-
-between : (z : ℤ) → z ≡ pos (up z) → (577 ≤ up z) × (up z ≤ 7986) → Between z
-between z e h = record { whole = e ∙ ap pos (sym same); least = omega (arith, same); most = omega (arith, same) }
-  where
-    same : natAbs z ≡ up z
-    same = ap natAbs e
+  pub least : low ≤ natAbs z
+  pub most : natAbs z ≤ high
 
 module _ (dump : List ℕ) (skip : Bool) (version unit atten : ℕ) (param : RtcCalibParam) (u : unit ≤ 1) (a : atten ≤ 3) where
-  -- a version and a parameter that pair
-  pub paired-range : (firstTag version param ≡ 0 → ⊥) → Between (readingOf dump skip (tagOf version unit atten param))
-  paired-range h =
+  abbrev tag : ℕ
+  tag = tagOf version unit atten param
+
+  -- a version and a parameter that pair, by what their chain's bases and widths say
+  by-spread : (firstTag version param ≡ 0 → ⊥) → {low high : ℕ} → Spread low high tag → Between low high (readingOf dump skip tag)
+  by-spread h s =
       let in-table = tag-in-table version unit atten param u a in
-      between (readingOf dump skip (tagOf version unit atten param)) (reading-whole dump skip _ in-table)
-      (reading-range dump skip _ in-table (tag-some version unit atten param h))
+      let reading : ℤ = readingOf dump skip tag in
+      let whole : reading ≡ pos (up reading) = reading-whole dump skip tag in-table in
+      let same : natAbs reading ≡ up reading = ap natAbs whole in
+      let range = reading-range dump skip tag in-table (tag-some version unit atten param h) s in
+      record { whole = whole ∙ ap pos (sym same); least = omega (arith, same, range .0); most = omega (arith, same, range .1) }
+
+  pub paired-range : (firstTag version param ≡ 0 → ⊥) → Between 577 7986 (readingOf dump skip tag)
+  paired-range h =
+      by-spread h (rule-of tag (tag-some version unit atten param h) (tag-in-table version unit atten param u a) .between)
 
   -- and that don't
-  pub unpaired : firstTag version param ≡ 0 → readingOf dump skip (tagOf version unit atten param) ≡ pos 0
+  pub unpaired : firstTag version param ≡ 0 → readingOf dump skip tag ≡ pos 0
   unpaired e = ap (readingOf dump skip) (tag-none version unit atten param e) ∙ reading-none dump skip
 
--- the codes: both parameters pair with version 2
-pub init-pairs : firstTag 2 Vinit ≡ 0 → ⊥
+-- the codes: both parameters pair with version 2, and each has eight tags, which one computed test goes through
+pub init-pairs : firstTag 2 Vinit ≡ 25
 unfolding byVersion
-init-pairs e = omega arith
+init-pairs = refl
 
-pub high-pairs : firstTag 2 Vhigh ≡ 0 → ⊥
+pub high-pairs : firstTag 2 Vhigh ≡ 17
 unfolding byVersion
-high-pairs e = omega arith
+high-pairs = refl
 
-module _ (words : ℕ → ℕ) (dump map : List ℕ) (unit atten : ℕ) (good : codeRefusal words dump map unit atten ≡ 0)
-    (param : RtcCalibParam) (pairs : firstTag 2 param ≡ 0 → ⊥) where
-  code-between : Between (readingOf dump false (tagOf 2 unit atten param))
-  code-between =
-      let g = code-good words dump map unit atten good in
-      paired-range dump false 2 unit atten param (g .1 .0) (g .1 .1) pairs
+init-spread : (k : ℕ) → k < 8 → Spread 1265 2127 (25 + k)
+unfolding calibMap entryAt along
+init-spread = rule (λ k. spread 1265 2127 (25 + k)) 8 tt
 
-  pub code-whole : pos (valueOf (codeOf words dump map unit atten param)) ≡ readingOf dump false (tagOf 2 unit atten param)
-  unfolding codeOf
-  code-whole = rw good (sym (code-between .whole))
+high-spread : (k : ℕ) → k < 8 → Spread 4321 7986 (17 + k)
+unfolding calibMap entryAt along
+high-spread = rule (λ k. spread 4321 7986 (17 + k)) 8 tt
 
-  pub code-range : let v = valueOf (codeOf words dump map unit atten param) in (577 ≤ v) × (v ≤ 7986)
-  unfolding codeOf
-  code-range = rw good (code-between .least, code-between .most)
+module _ (words : ℕ → ℕ) (dump map : List ℕ) (unit atten : ℕ) (good : codeRefusal words dump map unit atten ≡ 0) where
+  inside : (unit ≤ 1) × (atten ≤ 3)
+  inside = code-good words dump map unit atten good .1
+
+  -- a parameter of version 2 whose eight tags are from a first one on
+  module _ (param : RtcCalibParam) (first : ℕ) (pairs : firstTag 2 param ≡ first) (some : 0 < first) {low high : ℕ}
+      (eight-tags : (k : ℕ) → k < 8 → Spread low high (first + k)) where
+    code-between : Between low high (readingOf dump false (tagOf 2 unit atten param))
+    code-between =
+        by-spread dump false 2 unit atten param (inside .0) (inside .1) (λ e. omega (arith, pairs))
+        (rw (tag-is 2 unit atten param pairs some) (eight-tags (unit * 4 + atten) (omega (arith, inside))))
+
+    -- the code is the reading itself, and in its range
+    code-answer : let v = valueOf (codeOf words dump map unit atten param) in
+        (pos v ≡ readingOf dump false (tagOf 2 unit atten param)) × ((low ≤ v) × (v ≤ high))
+    unfolding codeOf
+    code-answer = rw good (sym (code-between .whole), (code-between .least, code-between .most))
+
+  pub code-whole : (pos (valueOf (initCodeOf words dump map unit atten)) ≡ readingOf dump false (tagOf 2 unit atten Vinit))
+      × (pos (valueOf (calCodeOf words dump map unit atten)) ≡ readingOf dump false (tagOf 2 unit atten Vhigh))
+  code-whole =
+      (code-answer Vinit 25 init-pairs (omega arith) init-spread .0, code-answer Vhigh 17 high-pairs (omega arith) high-spread .0)
+
+  pub code-range :
+      let init = valueOf (initCodeOf words dump map unit atten) in
+      let cal = valueOf (calCodeOf words dump map unit atten) in
+      ((1265 ≤ init) × (init ≤ 2127)) × ((4321 ≤ cal) × (cal ≤ 7986))
+  code-range =
+      (code-answer Vinit 25 init-pairs (omega arith) init-spread .1, code-answer Vhigh 17 high-pairs (omega arith) high-spread .1)

@@ -21,6 +21,17 @@ upBase e = up (base e)
 abbrev pub dnBase : RtcCalibEntry → ℕ
 dnBase e = dn (base e)
 
+-- by the bases along a chain, less its widths and with them, its reading is from low to high
+pub record Spread (low high tag : ℕ) : Type 0 where
+  pub least : along spanOf 4 tag + along dnBase 4 tag + low ≤ along upBase 4 tag
+  pub most : along spanOf 4 tag + along upBase 4 tag ≤ high + along dnBase 4 tag
+
+abbrev pub spread : (low high tag : ℕ) → Check (Spread low high tag)
+spread low high tag =
+    by (λ p. record { least = p .0; most = p .1 })
+    (also (at-most (along spanOf 4 tag + along dnBase 4 tag + low) (along upBase 4 tag))
+    (at-most (along spanOf 4 tag + along upBase 4 tag) (high + along dnBase 4 tag)))
+
 pub record Rule (tag : ℕ) : Type 0 where
   pub some : 1 ≤ bitLength (entryAt tag)
   pub few : bitLength (entryAt tag) ≤ 10
@@ -32,8 +43,7 @@ pub record Rule (tag : ℕ) : Type 0 where
   pub next : depends (entryAt tag) < 33
   pub falls : rankOf (depends (entryAt tag)) < rankOf tag
   pub four : rankOf tag ≤ 4
-  pub least : along spanOf 4 tag + along dnBase 4 tag + 577 ≤ along upBase 4 tag
-  pub most : along spanOf 4 tag + along upBase 4 tag ≤ 7986 + along dnBase 4 tag
+  pub between : Spread 577 7986 tag
 
 whole : (e : RtcCalibEntry) → Check (pos (natAbs (multiplier e)) ≡ multiplier e)
 whole e = record { passes = nonNeg (multiplier e); shows = pos-natAbs (multiplier e) }
@@ -55,8 +65,7 @@ check tag =
       next = q .1 .0;
       falls = q .1 .1 .0;
       four = q .1 .1 .1 .0;
-      least = q .1 .1 .1 .1 .0;
-      most = q .1 .1 .1 .1 .1;
+      between = q .1 .1 .1 .1;
     }))
     (also (at-most 1 (bitLength e))
     (also (at-most (bitLength e) 10)
@@ -68,8 +77,7 @@ check tag =
     (also (at-most (suc (depends e)) 33)
     (also (at-most (suc (rankOf (depends e))) (rankOf tag))
     (also (at-most (rankOf tag) 4)
-    (also (at-most (along spanOf 4 tag + along dnBase 4 tag + 577) (along upBase 4 tag))
-    (at-most (along spanOf 4 tag + along upBase 4 tag) (7986 + along dnBase 4 tag)))))))))))))
+    (spread 577 7986 tag)))))))))))
 
 passed : T (all (λ k. check (suc k) .passes) 32)
 unfolding check whole entryAt calibMap rankOf along

@@ -1,6 +1,6 @@
 -- Laws of tags: a first tag is at most 25, so that every tag is in the table. Assumes nothing.
 use mathlib.Core.Path.{_≡_}
-use Prim.Native.Nat.{ℕ, _≤_, _<_}
+use Prim.Native.Nat.{ℕ, _+_, _*_, _≤_, _<_}
 use native.Mathlib.Omega.{arith}
 use lib.Dec.{eqb}
 use borrow.Author.Tests.{eq-eqb, ne-eqb}
@@ -24,6 +24,11 @@ module _ (version unit atten : ℕ) (param : RtcCalibParam) where
   unfolding tagOf
   tag-in-table u a =
       picked (λ n. n < 33) (eqb (firstTag version param) 0) (omega arith) (omega (arith, first-most version param))
+
+  -- it stands after a first tag, by unit and attenuation
+  pub tag-is : {first : ℕ} → firstTag version param ≡ first → 0 < first → tagOf version unit atten param ≡ first + (unit * 4 + atten)
+  unfolding tagOf
+  tag-is {first} e some = rw (e, ne-eqb first 0 (λ z. omega arith)) (omega arith)
 
   -- it is tag 0 where version and parameter don't pair, and only there
   pub tag-none : firstTag version param ≡ 0 → tagOf version unit atten param ≡ 0

@@ -59,14 +59,14 @@ fn code_of(dump: &[u32], map: &[u8], unit: u8, atten: u8, param: RtcCalibParam) 
     Code::Value(code_at(dump, unit, atten, param))
 }
 
-// The ADC's initial code for a unit and an attenuation: from 577 to 7986. Refusals 1, 7, the map's, 12.
+// The ADC's initial code for a unit and an attenuation: from 1265 to 2127. Refusals 1, 7, the map's, 12.
 pub fn rtc_calib_init_code(dump: &[u32], map: &[u8], unit: u8, atten: u8) -> Code
     ensures { λ r. ⌜ r ≡ initCodeOf eight (now (dump .entry)) (now (map .entry)) unit atten ⌝ }
 {
     code_of(dump, map, unit, atten, RtcCalibParam::Vinit)
 }
 
-// The ADC's code at the reference voltage of a unit and an attenuation: from 577 to 7986. Refusals 1, 7, the map's, 12.
+// The ADC's code at the reference voltage of a unit and an attenuation: from 4321 to 7986. Refusals 1, 7, the map's, 12.
 pub fn rtc_calib_cal_code(dump: &[u32], map: &[u8], unit: u8, atten: u8) -> Code
     ensures { λ r. ⌜ r ≡ calCodeOf eight (now (dump .entry)) (now (map .entry)) unit atten ⌝ }
 {

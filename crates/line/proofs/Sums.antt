@@ -59,7 +59,7 @@ pub voltage-is : (r : LineRecord) (raw : ℕ) → lookupVoltage r raw ≡ lookup
 unfolding lookupVoltage lookupSum
 voltage-is r raw = abs-quot (lookupNumerator r raw +ℤ pos 6400) 12800
 
-module _ (r : LineRecord) (ranges : InRanges r) where
+module _ (r : LineRecord) where
   -- a point of the record's unit, at its Vref
   abbrev pt : ℕ → ℕ
   pt k = pointAt (r .unit) (r .vref) k
@@ -92,13 +92,13 @@ module _ (r : LineRecord) (ranges : InRanges r) where
   unfolding lookupSum
   sum-in-step i y hi hy = rw (in-step i y hi hy)
 
-  module _ (raw : ℕ) (from : 2880 ≤ raw) where
-    -- the numerator is never negative
-    pub numerator-natural : raw ≤ 4095 → lookupNumerator r raw ≡ pos (natAbs (lookupNumerator r raw))
-    numerator-natural upto =
-        let place : raw ≡ 2880 + 64 * ((raw - 2880) / 64) + (raw - 2880) % 64 = omega arith in
-        rw (place, in-step ((raw - 2880) / 64) ((raw - 2880) % 64) (omega arith) (omega arith))
+  -- the numerator is never negative, whatever the record
+  pub numerator-natural : (raw : ℕ) → 2880 ≤ raw → raw ≤ 4095 → lookupNumerator r raw ≡ pos (natAbs (lookupNumerator r raw))
+  numerator-natural raw from upto =
+      let place : raw ≡ 2880 + 64 * ((raw - 2880) / 64) + (raw - 2880) % 64 = omega arith in
+      rw (place, in-step ((raw - 2880) / 64) ((raw - 2880) % 64) (omega arith) (omega arith))
 
+  module _ (ranges : InRanges r) (raw : ℕ) (from : 2880 ≤ raw) where
     -- the sum is small
     pub sum-most : raw ≤ 4096 → lookupSum r raw ≤ 41129280
     sum-most upto =

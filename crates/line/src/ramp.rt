@@ -1,4 +1,7 @@
 // Sums that grow by one step a count, and their whole quotients: line and lookup are such, and so the fill moves by additions.
+// What moves by additions is the sum. What is taken anew at each count is its quotient by a constant, 65536 or 12800, which the compiler
+// makes a shift or a multiplication. A quotient that moved by additions too would need its remainder beside it, and a test at each count
+// whether that ran over; each count would wait for the one before it, and the loop couldn't do several counts at once, as this one does.
 use crate::convert::COEFF_A_SCALE;
 use crate::convert::interpolate_two_points;
 use crate::lookup::LUT_SCALE;

@@ -3,6 +3,7 @@ use esp32::decode;
 use esp32::decode::Decoded;
 use line::record::LineRecord;
 use replay::bytes;
+use terms::refusal;
 
 // Whether a record is the case's. It is of the unit that was asked for.
 fn same_record(got: LineRecord, case: &[u8]) -> bool {
@@ -13,17 +14,22 @@ fn same_record(got: LineRecord, case: &[u8]) -> bool {
         && got.coeff_b == bytes::number32(case, 60)
 }
 
-// Whether a record is decoded as the case says, or refused; a refused case has zeros for a record.
+// Whether a decoding is refused as the case says, with its number, and has zeros for a record.
+fn same_refusal(decoded: Decoded, case: &[u8]) -> bool {
+    let none = [0u8; 11];
+    decode::number_of(decoded) == bytes::number8(case, 52)
+        && check::same(bytes::part(case, 53, 11), &none)
+}
+
+// Whether a record is decoded as the case says, or refused.
 pub(crate) fn same_decode(words: &[u32], case: &[u8]) -> bool {
     let dump = replay::lent(words, bytes::number8(case, 49));
     let map = bytes::part(case, 0, bytes::number8(case, 48) as usize);
     let unit = bytes::number8(case, 50);
     let atten = bytes::number8(case, 51);
-    let none = [0u8; 11];
     let decoded = decode::decode(dump, map, unit, atten);
-    let same = match decoded {
-        Decoded::Record(record) => same_record(record, case),
-        Decoded::Refused(_) => check::same(bytes::part(case, 53, 11), &none),
+    let Decoded::Record(record) = decoded else {
+        return same_refusal(decoded, case);
     };
-    same && decode::number_of(decoded) == bytes::number8(case, 52)
+    bytes::number8(case, 52) == refusal::NONE && same_record(record, case)
 }

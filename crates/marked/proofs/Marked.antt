@@ -1,6 +1,6 @@
 -- Document 01's marked cases hold: what is asked computes to what it says, all in one. Assumes nothing.
 use mathlib.Core.Path.{_≡_, refl}
-use mathlib.Core.List.{map}
+use mathlib.Core.List.{map, flatten}
 use Rattle.terms.specs.Refuse.{firstOf, unitRefusal}
 use Rattle.terms.specs.Sign.{signMagnitude}
 use Rattle.efuse.specs.Field.{bitsOf, placeRefusal, fieldBits}
@@ -13,9 +13,11 @@ use Rattle.line.specs.Record.{usesLookup, recordRefusal}
 use Rattle.line.specs.Lookup.{lowAt, highAt, lookupNumerator, lookupVoltage}
 use Rattle.line.specs.Convert.{lineVoltage, blendOf, beyondLine, answerAt, convertRefusal, convertOf}
 use Rattle.esp32s2.specs.Table.{calibMap, entryAt}
-use Rattle.esp32s2.specs.Reading.{termOf, within, readingOf}
-use Rattle.esp32c6.specs.Code.{offsetOf, calCode}
-use Rattle.esp32c6.specs.Channel.{compensOf}
+use Rattle.esp32s2.specs.Tag.{byVersion, tagOf}
+use Rattle.esp32s2.specs.Reading.{termOf, within, readingOf, readingRefusal, calibReadingOf}
+use Rattle.esp32c6.specs.Version.{versionOf}
+use Rattle.esp32c6.specs.Code.{versionRefusal, codeRefusal, offsetOf, calCode, calCodeOf}
+use Rattle.esp32c6.specs.Channel.{compensOf, chanCompensOf}
 use Rattle.curve.specs.Decimal.{nearest, doublings, scaled, magnitude, coefficient}
 use Rattle.curve.specs.Table.{tableOf}
 use Rattle.curve.specs.Correct.{horner, errorOf, correctedOf, correctRefusal, correctOf}
@@ -28,7 +30,7 @@ unfolding
     usesLookup recordRefusal lowAt highAt lookupNumerator lookupVoltage lineVoltage blendOf beyondLine answerAt convertRefusal convertOf
     firstOf bitsOf placeRefusal fieldBits countRefusal mapRecordRefusal mapRefusal decodingRefusal valueAt
     twoPointUsed sourceOf foundOf decodedRecord decodeRefusal decodeOf
-    calibMap entryAt termOf within readingOf
-    offsetOf calCode compensOf
+    flatten calibMap entryAt byVersion tagOf termOf within readingOf readingRefusal calibReadingOf
+    versionOf versionRefusal codeRefusal offsetOf calCode calCodeOf compensOf chanCompensOf
     nearest doublings scaled magnitude coefficient tableOf horner errorOf correctedOf correctRefusal correctOf unitRefusal
 marked = refl

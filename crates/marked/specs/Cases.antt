@@ -1,6 +1,5 @@
 -- Document 01, "Marked cases, one list under one statement": what each case asks of the library's definitions, and what it must be.
-use mathlib.Core.Bool.{false}
-use mathlib.Core.List.{List, [], _∷_, _++_, map}
+use mathlib.Core.List.{List, [], _∷_, _++_, map, flatten}
 use Prim.Native.Nat.{ℕ, _+_, _*_, _-_, _^_}
 use lib.IntN.{ℤ, pos, negℤ}
 use lib.ListN.{replicate}
@@ -14,9 +13,14 @@ use Rattle.esp32.specs.Decode.{decodeOf}
 use Rattle.esp32.specs.Decode.{numberOf as numberDecoded, valueOf as recordDecoded}
 use Rattle.line.specs.Convert.{convertOf}
 use Rattle.line.specs.Convert.{valueOf as millivoltsOf}
-use Rattle.esp32s2.specs.Reading.{readingOf}
-use Rattle.esp32c6.specs.Code.{calCode}
-use Rattle.esp32c6.specs.Channel.{compensOf}
+use Rattle.esp32s2.specs.declared.tag.RtcCalibParam.{RtcCalibParam}
+use Rattle.esp32s2.specs.declared.tag.RtcCalibParam.the-variants.{Vhigh, Vinit}
+use Rattle.esp32s2.specs.Reading.{calibReadingOf}
+use Rattle.esp32s2.specs.Reading.{valueOf as readingValue}
+use Rattle.esp32c6.specs.Code.{calCodeOf}
+use Rattle.esp32c6.specs.Code.{valueOf as codeValue}
+use Rattle.esp32c6.specs.Channel.{chanCompensOf}
+use Rattle.esp32c6.specs.Channel.{valueOf as compensValue}
 use Rattle.curve.specs.Correct.{correctOf}
 use Rattle.curve.specs.Correct.{valueOf as correctedTo}
 
@@ -68,6 +72,29 @@ abbrev top-and-number : ℕ → ℕ → List ℕ
 top-and-number low high =
     topOf (lowOf 0 low) (highOf 0 high) ∷ numberDecoded (decodeOf eight (twoPoints low high) mapped 0 3) ∷ []
 
+-- the S2's reading of version 2. Its tags are unit × 4 + attenuation after 17 for the high reading, after 25 for the initial code
+abbrev reading : List ℕ → ℕ → ℕ → RtcCalibParam → ℤ
+reading dump unit atten param = readingValue (calibReadingOf dump 2 unit atten param)
+
+-- a C6 map whose fields all start at bit 0 of block 1, so that in a dump of equal words each has the low bits of the word
+abbrev fields : ℕ → List ℕ → List (List ℕ)
+fields count ids = map (λ id. id ∷ 1 ∷ 0 ∷ 0 ∷ count ∷ 0 ∷ 0 ∷ 0 ∷ []) ids
+
+abbrev mapped-c6 : List ℕ
+mapped-c6 =
+    flatten (
+    fields 8 (9 ∷ 10 ∷ 11 ∷ 12 ∷ [])
+    ++ fields 10 (13 ∷ 14 ∷ 15 ∷ 16 ∷ [])
+    ++ fields 4 (17 ∷ 18 ∷ 19 ∷ 20 ∷ 21 ∷ 22 ∷ 23 ∷ [])
+    )
+
+-- the C6's reference code and the compensation of channel 0, of unit 0, by the bits of the field
+abbrev referenceCode : ℕ → ℕ → ℕ → ℕ
+referenceCode minor atten bits = codeValue (calCodeOf eight (filledWith bits) mapped-c6 minor 0 atten)
+
+abbrev compensation : ℕ → ℕ → ℤ
+compensation bits atten = compensValue (chanCompensOf eight (filledWith bits) mapped-c6 0 0 atten)
+
 -- the curve's answer to a line answer of 1 mV, at 11 dB
 abbrev corrected : Chip → ℕ → ℕ
 corrected chip unit = correctedTo (correctOf chip unit 3 (record { 0 = 1 })) .0
@@ -91,13 +118,19 @@ cases =
     ∷ record { asked = whole (top-and-number 63 445); answer = whole (850 ∷ 0 ∷ []) }
     ∷ record { asked = whole (top-and-number 63 444); answer = whole (851 ∷ 9 ∷ []) }
     -- 7. "S2, zero block: tags 17, 28, 32 give 6110, 1685, 1719"
-    ∷ record { asked = map (readingOf (filledWith 0) false) (17 ∷ 28 ∷ 32 ∷ []); answer = whole (6110 ∷ 1685 ∷ 1719 ∷ []) }
+    ∷ record {
+      asked = reading (filledWith 0) 0 0 Vhigh ∷ reading (filledWith 0) 0 3 Vinit ∷ reading (filledWith 0) 1 3 Vinit ∷ [];
+      answer = whole (6110 ∷ 1685 ∷ 1719 ∷ []);
+    }
     -- 8. "S2, block all ones: tag 28 gives 1277, tag 24 gives 5077"
-    ∷ record { asked = map (readingOf (filledWith (2 ^ 32 - 1)) false) (28 ∷ 24 ∷ []); answer = whole (1277 ∷ 5077 ∷ []) }
+    ∷ record {
+      asked = reading (filledWith (2 ^ 32 - 1)) 0 3 Vinit ∷ reading (filledWith (2 ^ 32 - 1)) 1 3 Vhigh ∷ [];
+      answer = whole (1277 ∷ 5077 ∷ []);
+    }
     -- 9. "C6 v2, 6 dB, 0x200: 2900; v1, 0x3FF: 989"
-    ∷ record { asked = calCode 2 2 512 ∷ calCode 1 0 1023 ∷ []; answer = whole (2900 ∷ 989 ∷ []) }
+    ∷ record { asked = whole (referenceCode 2 2 512 ∷ referenceCode 1 0 1023 ∷ []); answer = whole (2900 ∷ 989 ∷ []) }
     -- 10. "C6 channel code 0xF at 0 dB and 11 dB: −28, −7"
-    ∷ record { asked = compensOf 0 15 ∷ compensOf 3 15 ∷ []; answer = minus 28 ∷ minus 7 ∷ [] }
+    ∷ record { asked = map (compensation 15) (0 ∷ 3 ∷ []); answer = minus 28 ∷ minus 7 ∷ [] }
     -- 11. "C3 ADC1 11 dB, line answer 1: 2. S3 ADC2 11 dB, 1: 0"
     ∷ record { asked = whole (corrected C3 0 ∷ corrected S3 1 ∷ []); answer = whole (2 ∷ 0 ∷ []) }
     ∷ []

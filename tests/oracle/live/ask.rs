@@ -34,7 +34,6 @@ fn ask(library: &Library, call: &'static str, input: &Input) -> Compared {
         "read_field_le" => fields::into_bytes(library, tally, &dumps[0], input.field(), input.value("bytes lent")),
         "view" => fields::view(library, tally, [&dumps[0], &dumps[1]], input.value("board"), input.value("block")),
         "check_map" => maps::check(library, tally, input.value("chip"), bytes),
-        "field_at" => maps::field_at(library, tally, bytes, input.value("record")),
         "decode" => decode::decode(library, tally, &dumps[0], bytes, input.unit_and_atten()),
         "check_record" => records::check(library, tally, input.record()),
         "convert" => convert::convert_one(library, tally, input.record(), input.value("raw")),

@@ -84,7 +84,6 @@ unsafe extern "C" {
     pub fn skv_read_field_le(dump: Words, _: Length, field: SkvField, bytes: *mut u8, _: Length) -> SkvOutcome;
     pub fn skv_view(field: Words, _: Length, reference: Words, _: Length, board: u8, block: u8) -> SkvView;
     pub fn skv_check_map(chip: u8, map: Bytes, _: Length) -> SkvOutcome;
-    pub fn skv_field_at(map: Bytes, _: Length, k: usize) -> SkvField;
 
     pub fn skv_decode(dump: Words, _: Length, map: Bytes, _: Length, unit: u8, atten: u8) -> Told<SkvLineRecord>;
     pub fn skv_check_record(cal: SkvLineRecord) -> SkvOutcome;

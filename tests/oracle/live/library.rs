@@ -25,7 +25,6 @@ library! {
     view(field: &[u32], reference: &[u32], board: u8, block: u8) -> SkvView =
         skv_view(field.as_ptr(), field.len(), reference.as_ptr(), reference.len(), board, block);
     check_map(chip: u8, map: &[u8]) -> SkvOutcome = skv_check_map(chip, map.as_ptr(), map.len());
-    field_at(map: &[u8], k: usize) -> SkvField = skv_field_at(map.as_ptr(), map.len(), k);
 
     decode(dump: &[u32], map: &[u8], unit: u8, atten: u8) -> Told<SkvLineRecord> =
         skv_decode(dump.as_ptr(), dump.len(), map.as_ptr(), map.len(), unit, atten);

@@ -1,10 +1,8 @@
-//! Field maps: every refusal of a map, and the field of a record. The crate has no maps: document 01's rules answer.
-use oracle::fields::field_of;
+//! Field maps: every refusal of a map. The crate has no maps: document 01's rules answer.
 use oracle::maps::{good_of, of_length, spoil};
 use oracle::noise::Noise;
 use oracle::rules::{self, Answer, MapChip, RECORD};
 
-use crate::fields::c_field;
 use crate::input::Input;
 use crate::library::Library;
 use crate::tally::{Compared, Tally, outcome};
@@ -52,28 +50,6 @@ pub fn maps(library: &Library, tally: &mut Tally, noise: &mut Noise) -> Compared
     for (number, chip) in CHIPS {
         for good in good_of(noise, chip) {
             around(library, tally, noise, number, &good)?;
-        }
-    }
-    Ok(())
-}
-
-/// Bytes past the map's end count as zero.
-pub fn field_at(library: &Library, tally: &mut Tally, map: &[u8], k: usize) -> Compared {
-    let byte = |i: usize| k.checked_mul(RECORD).and_then(|first| map.get(first + i)).copied().unwrap_or(0);
-    let wanted = || c_field(field_of(&std::array::from_fn::<u8, RECORD, _>(byte), 0));
-    let input = || Input::default().number("record", k as u64).map(map);
-    tally.same("field_at", input, (library.field_at)(map, k), wanted)
-}
-
-/// Every record of any bytes, whole and torn, and records past the end.
-pub fn map_fields(library: &Library, tally: &mut Tally, noise: &mut Noise) -> Compared {
-    const RECORDS: usize = 20;
-    for _ in 0..200 {
-        let map: Vec<u8> = (0..RECORDS * RECORD).map(|_| noise.byte()).collect();
-        for length in 0..=map.len() {
-            for k in (0..=RECORDS).chain([usize::MAX / RECORD, usize::MAX / RECORD + 1, usize::MAX]) {
-                field_at(library, tally, &map[..length], k)?;
-            }
         }
     }
     Ok(())

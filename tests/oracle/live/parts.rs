@@ -19,12 +19,11 @@ impl Part {
     }
 }
 
-pub const PARTS: [Part; 22] = [
+pub const PARTS: [Part; 21] = [
     Part { name: "fields", run: fields::fields },
     Part { name: "fields into bytes", run: fields::bytes },
     Part { name: "views", run: fields::views },
     Part { name: "maps", run: maps::maps },
-    Part { name: "fields of maps", run: maps::map_fields },
     Part { name: "decoding by Vref", run: decode::vref },
     Part { name: "decoding by two points", run: decode::two_point },
     Part { name: "decoding with faults", run: decode::refused },

@@ -6,7 +6,7 @@ use std::ops::Range;
 use oracle::rules::{Answer, number};
 use oracle::{Panic, quietly};
 
-use crate::exports::{SkvField, SkvNext, SkvOutcome, SkvView, Told};
+use crate::exports::{SkvNext, SkvOutcome, SkvView, Told};
 use crate::input::{Input, runs};
 
 /// Where two answers differ.
@@ -54,8 +54,7 @@ seen! {
     SkvOutcome: |answer| answer.number,
     SkvView: |answer| answer.number,
     SkvNext: |answer| answer.number,
-    // Calls that refuse nothing: the field of a map's record, the C6's version.
-    SkvField: |_| 0,
+    // A call that refuses nothing: the C6's version.
     u8: |_| 0,
 }
 

@@ -1,5 +1,5 @@
 //! Faults of maps.
-use crate::exports::{SkvField, SkvOutcome};
+use crate::exports::SkvOutcome;
 use crate::library::PROVED;
 
 /// The map with a change in each of its records.
@@ -29,13 +29,4 @@ pub fn last_record_passed_over(chip: u8, map: &[u8]) -> SkvOutcome {
 
 pub fn map_of_c3(chip: u8, map: &[u8]) -> SkvOutcome {
     (PROVED.check_map)(if chip == 2 { 1 } else { chip }, map)
-}
-
-pub fn low_byte_of_start(map: &[u8], k: usize) -> SkvField {
-    let field = (PROVED.field_at)(map, k);
-    SkvField { bit_start: field.bit_start % 256, ..field }
-}
-
-pub fn torn_is_empty(map: &[u8], k: usize) -> SkvField {
-    (PROVED.field_at)(&map[..map.len() / 8 * 8], k)
 }

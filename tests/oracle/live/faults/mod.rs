@@ -11,8 +11,10 @@ mod s2;
 
 use oracle::dumps::Builder;
 use oracle::fields::field_of;
+use oracle::rules::RECORD;
 
 use crate::exports::{SkvOutcome, Told};
+use crate::fields::c_field;
 use crate::library::{Library, PROVED};
 
 pub struct Fault {
@@ -53,10 +55,6 @@ faults! {
         "6 is asked for before 5": check_map = maps::count_before_place,
         "the last record isn't looked at": check_map = maps::last_record_passed_over,
         "a C3 has the S2's map": check_map = maps::map_of_c3,
-    }
-    "fields of maps" {
-        "the start's high byte is left out": field_at = maps::low_byte_of_start,
-        "a torn record is empty": field_at = maps::torn_is_empty,
     }
     "decoding by Vref" {
         "Vref is read as two's complement": decode = decode::vref_in_twos_complement,
@@ -186,7 +184,10 @@ fn outcome(number: u8) -> SkvOutcome {
 
 /// The bits of a map's field; 0 where there is no such field.
 fn bits(dump: &[u32], map: &[u8], k: usize) -> u32 {
-    (PROVED.read_field_u32)(dump, (PROVED.field_at)(map, k)).value
+    if map.len() < RECORD * (k + 1) {
+        return 0;
+    }
+    (PROVED.read_field_u32)(dump, c_field(field_of(map, k))).value
 }
 
 /// The dump with other bits in a field of an ESP32 map, where the call isn't refused for its dump or map.

@@ -1,13 +1,13 @@
 -- `efuse::fields_refusal` meets its contract: the length's test decides the definition's. Assumes nothing.
 use borrow.Author.Needs.{needs}
-use borrow.Author.Tests.{eq-eqb, ne-eqb}
+use borrow.Author.Tests.{eq-eqb}
 use Rattle.efuse.specs.Decoding.{fieldsRefusal}
+use Rattle.efuse.proofs.Decodings.{fields-dump}
 use Rattle.efuse.proofs.decoding.fields_refusal.Statement.{statement}
 use Rattle.efuse.proofs.decoding.fields_refusal.Tie as tie
 
 returns : tie.Need-returns
-unfolding fieldsRefusal
-returns c = simp (ne-eqb _ _ (c .if1 .taken))
+returns c = fields-dump _ _ _ _ (c .if1 .taken)
 
 map-refusal-requires : tie.Need-map-refusal-requires
 map-refusal-requires c κs = search needs

@@ -10,7 +10,7 @@ tp-atten-requires c κs = search needs
 two-point-a-requires : tie.Need-two-point-a-requires
 two-point-a-requires c κs =
     let k = c .before .pre in
-    rw (c .tp-atten .ensures .0) (tp-most _ _ (k .0) (k .1) .0, k .2)
+    rw (c .tp-atten .ensures .0) (tp-most _ _ .0, k .2)
 
 top-requires : tie.Need-top-requires
 top-requires c κs = search needs
@@ -19,7 +19,7 @@ two-point-b-requires : tie.Need-two-point-b-requires
 two-point-b-requires c κs =
     let p = c .before .before in
     let k = p .before .pre in
-    rw (c .top .ensures, p .tp-atten .ensures .1) (k .3, tp-most _ _ (k .0) (k .1) .1)
+    rw (c .top .ensures, p .tp-atten .ensures .1) (k .3, tp-most _ _ .1)
 
 returns : tie.Need-returns
 returns c =

@@ -12,7 +12,7 @@ vref-atten-requires c κs = search needs
 mul-t7 : tie.Need-mul-t7
 mul-t7 c =
     let k = c .before .pre in
-    rw (c .vref-atten .ensures .0) (omega (arith, mul-le-mul (k .2) (vref-most _ _ (k .0) (k .1) .0)))
+    rw (c .vref-atten .ensures .0) (omega (arith, mul-le-mul (k .2) (vref-most (c .before .args .unit) (c .before .args .atten) .0)))
 
 returns : tie.Need-returns
 returns c = rw (c .vref-atten .ensures .0, c .vref-atten .ensures .1)

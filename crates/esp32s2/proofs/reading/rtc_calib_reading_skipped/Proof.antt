@@ -1,7 +1,9 @@
 -- `esp32s2::rtc_calib_reading_skipped` meets its contract: where nothing is refused the tag is in the table, and no dump is read.
 -- Assumes nothing.
-use mathlib.Core.Path.{sym, _∙_, ap}
-use mathlib.Core.Bool.{true}
+use mathlib.Core.Path.{_≡_, sym, _∙_, ap}
+use mathlib.Core.Bool.{Bool, true, false, cond}
+use Prim.Native.Nat.{ℕ}
+use native.Mathlib.Omega.{arith}
 use mir.Syntax.{w32}
 use mir.ValLaws.{toZ-ofZ}
 use borrow.Author.Needs.{needs, sfits-of}
@@ -25,11 +27,15 @@ slice-aggregate-rtc-calib-parsed c = search needs
 rtc-calib-tag-requires : tie.Need-rtc-calib-tag-requires
 rtc-calib-tag-requires c κs = unit-inside _ _ (sym (c .before .before .unit-refusal .ensures) ∙ c .before .if1 .left)
 
+-- the eFuse is skipped, so that nothing is asked of a dump
+skipped : {P : Type 0} → true ≡ false → P
+skipped e = let z : _≡_ {A = ℕ} 0 1 = ap (λ (b : Bool). cond b 0 1) e in absurd (omega arith)
+
 rtc-calib-parsed-requires : tie.Need-rtc-calib-parsed-requires
 rtc-calib-parsed-requires c κs =
     let p = c .before .before in
     let good = unit-inside _ _ (sym (p .before .unit-refusal .ensures) ∙ p .if1 .left) in
-    (λ e. cc, rw (c .rtc-calib-tag .ensures) (tag-in-table _ _ _ _ (good .0) (good .1)))
+    (λ e. skipped e, rw (c .rtc-calib-tag .ensures) (tag-in-table _ _ _ _ (good .0) (good .1)))
 
 returns-2 : tie.Need-returns-2
 unfolding skippedReadingOf
