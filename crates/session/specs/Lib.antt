@@ -1,6 +1,3 @@
 pub mod Fault
-pub mod Lines
 pub mod Load
-pub mod Step
-pub mod Text
 pub mod Turns

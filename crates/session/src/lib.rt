@@ -1,7 +1,4 @@
-// The desk's work: loading files, the step of one sample, the text of its line, the lines of a log, and all of it over open files.
+// The desk's work over its files: loading dumps, what is wrong with a file, and answering a log part by part.
 pub mod desk;
 mod fault;
-mod lines;
 pub mod load;
-mod step;
-mod text;

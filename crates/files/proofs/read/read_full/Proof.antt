@@ -3,7 +3,7 @@ use mathlib.Core.Path.{_≡_}
 use Prim.Native.Nat.{_≤_}
 use lib.ListN.{length}
 use borrow.Author.Needs.{needs}
-use Rattle.files.proofs.Counted.{counted}
+use Rattle.terms.proofs.Counted.{counted}
 use Rattle.files.proofs.read.read_full.Statement.{statement}
 use Rattle.files.proofs.read.read_full.Tie as tie
 
