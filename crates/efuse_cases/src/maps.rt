@@ -1,5 +1,5 @@
 // data/maps: field maps, with the first thing wrong with each. A case starts from one of data/good_maps and changes two of its bytes.
-use efuse::map;
+use maps::map;
 use replay::answer;
 use replay::bytes;
 use terms::chip::MapChip;
