@@ -1,33 +1,38 @@
--- Each number of field reading, the view, a map and what goes by it is given exactly when: each case gives its number by the laws of the
--- refusals, and the tests leave no other case. Assumes nothing.
-use mathlib.Core.Path.{_≡_, refl, sym, _∙_}
-use mathlib.Core.Bool.{not}
+-- Each number of a dump, of field reading and of the view is given exactly when: each case gives its number by the laws of the refusals,
+-- and the tests leave no other case. Assumes nothing.
+use mathlib.Core.Path.{_≡_}
 use mathlib.Core.Logic.{inl, inr}
 use mathlib.Core.List.{List}
 use Prim.Native.Nat.{ℕ, _+_, _*_}
 use lib.ListN.{length}
-use lib.Dec.{eqb}
 use denote.Ref.{now}
-use borrow.Author.Tests.{eq-eqb, ne-eqb, lt-ltb, le-ltb, eqb-true, not-false}
-use Rattle.terms.specs.declared.chip.MapChip.{MapChip}
+use borrow.Author.Tests.{ne-eqb, lt-ltb, le-ltb}
 use Rattle.terms.specs.Exactly.{Exactly}
-use Rattle.terms.specs.Refuse.{firstOf}
-use Rattle.terms.specs.When.{UnitWhen, bad-unit, good-unit, FirstWhen}
-use Rattle.terms.proofs.Exactly.{Some, exactly, case, by-first, unit-exactly, first-exactly}
+use Rattle.terms.proofs.Exactly.{Some, exactly, case, by-first}
 use Rattle.terms.proofs.Order.{either, equal-or}
-use Rattle.terms.proofs.Refusals.{refuse-none}
+use Rattle.terms.proofs.Refusals.{orElse-given}
 use Rattle.efuse.specs.declared.field.EfuseField.{EfuseField}
+use Rattle.efuse.specs.Dump.{dumpRefusal}
 use Rattle.efuse.specs.Field.{placeRefusal, readRefusal}
-use Rattle.efuse.specs.View.{Lent, dumpOf, blockRefusal, viewRefusal}
-use Rattle.efuse.specs.Map.{recordByte, fieldOf, strayOf, idsOf, countsOf, countRefusal, recordRefusal, recordRefusals, mapRefusal}
-use Rattle.efuse.specs.Decoding.{fieldsRefusal, decodingRefusal}
-use Rattle.efuse.specs.When.{PlaceWhen, bad-block, bad-bits, good-place, ReadWhen, read-short, read-place}
-use Rattle.efuse.specs.When.{ViewWhen, view-board, view-short, view-block, good-view}
-use Rattle.efuse.specs.When.{Shaped, MapRecordWhen, bad-shape, bad-place, bad-count, good-record}
-use Rattle.efuse.specs.When.{MapWhen, bad-length, records, FieldsWhen, fields-short, fields-map}
-use Rattle.efuse.specs.When.{DecodingWhen, decode-short, decode-unit, decode-map}
-use Rattle.efuse.proofs.Maps.{record-id, record-stray, record-place, record-count, map-length, map-records}
+use Rattle.efuse.specs.View.{Lent, boardDump, blockRefusal, viewRefusal}
+use Rattle.efuse.specs.When.{DumpWhen, bad-dump, good-dump}
+use Rattle.efuse.specs.When.{PlaceWhen, bad-block, bad-bits, good-place, ReadWhen, read-dump, read-place}
+use Rattle.efuse.specs.When.{ViewWhen, view-board, view-dump, view-block, good-view}
+use Rattle.efuse.proofs.Dumps.{whole-dump}
 use Rattle.efuse.proofs.Places.{inside-place}
+
+-- a dump
+module _ (dump : List ℕ) where
+  dump-gives : (n : ℕ) → DumpWhen dump n → dumpRefusal dump ≡ n
+  unfolding dumpRefusal
+  dump-gives _ (bad-dump d) = simp (ne-eqb _ _ d)
+  dump-gives _ (good-dump d) = whole-dump dump d
+
+  dump-some : Some (DumpWhen dump)
+  dump-some = equal-or (length dump) 88 (λ d. (0, good-dump d)) (λ d. (1, bad-dump d))
+
+  pub dump-exactly : Exactly (dumpRefusal dump) (DumpWhen dump)
+  dump-exactly = exactly dump-gives dump-some
 
 module _ (words : ℕ → ℕ) where
   -- a field's place
@@ -61,137 +66,35 @@ module _ (words : ℕ → ℕ) where
     module _ (dump : List ℕ) where
       read-gives : (n : ℕ) → ReadWhen words dump f n → readRefusal words dump f ≡ n
       unfolding readRefusal
-      read-gives _ (read-short d) = simp (ne-eqb _ _ d)
-      read-gives n (read-place d p) = simp (eq-eqb _ _ d) (place-exactly n .1 p)
+      read-gives n (read-dump d some) = orElse-given _ _ (dump-exactly dump n .1 d) some
+      read-gives n (read-place d p) = rw (dump-exactly dump 0 .1 d) (place-exactly n .1 p)
 
       read-some : Some (ReadWhen words dump f)
-      read-some = equal-or (length dump) 88 (λ d. (_, read-place d (case place-exactly))) (λ d. (1, read-short d))
+      read-some = by-first (dump-exactly dump) (λ d. (_, read-place d (case place-exactly))) (λ n d some. (n, read-dump d some))
 
       pub read-exactly : Exactly (readRefusal words dump f) (ReadWhen words dump f)
       read-exactly = exactly read-gives read-some
 
 -- a view
 module _ (field reference : Lent) (board block : ℕ) where
+  abbrev chosen : Exactly (dumpRefusal (now (boardDump field reference board))) (DumpWhen (now (boardDump field reference board)))
+  chosen = dump-exactly (now (boardDump field reference board))
+
   view-gives : (n : ℕ) → ViewWhen field reference board block n → viewRefusal field reference board block ≡ n
   unfolding viewRefusal blockRefusal
   view-gives _ (view-board b) = simp (lt-ltb _ _ b)
-  view-gives _ (view-short b d) = simp (le-ltb _ _ b, ne-eqb _ _ d)
-  view-gives _ (view-block b d h) = simp (le-ltb _ _ b, eq-eqb _ _ d, lt-ltb _ _ h)
-  view-gives _ (good-view b d h) = simp (le-ltb _ _ b, eq-eqb _ _ d, le-ltb _ _ h)
+  view-gives n (view-dump b d some) = rw (le-ltb _ _ b) (orElse-given _ _ (chosen n .1 d) some)
+  view-gives _ (view-block b d h) = rw (le-ltb _ _ b, chosen 0 .1 d, lt-ltb _ _ h)
+  view-gives _ (good-view b d h) = rw (le-ltb _ _ b, chosen 0 .1 d, le-ltb _ _ h)
 
   view-some : Some (ViewWhen field reference board block)
   view-some =
       either board 1
       (λ b.
-      equal-or (length (now (dumpOf field reference board))) 88
+      by-first chosen
       (λ d. either block 10 (λ h. (0, good-view b d h)) (λ h. (4, view-block b d h)))
-      (λ d. (1, view-short b d)))
+      (λ n d some. (n, view-dump b d some)))
       (λ b. (15, view-board b))
 
   pub view-exactly : Exactly (viewRefusal field reference board block) (ViewWhen field reference board block)
   view-exactly = exactly view-gives view-some
-
--- a map
-module _ (words : ℕ → ℕ) (map : List ℕ) where
-  module _ (id k : ℕ) where
-    abbrev f : EfuseField
-    f = fieldOf map k
-
-    no-stray : Shaped map id k → strayOf map k ≡ 0
-    no-stray s = simp (eq-eqb _ _ (s .fifth), eq-eqb _ _ (s .sixth), eq-eqb _ _ (s .seventh))
-
-    shaped : recordByte map k 0 ≡ id → strayOf map k ≡ 0 → Shaped map id k
-    shaped i s =
-        let p = refuse-none (not (eqb (recordByte map k 5) 0)) 4 _ s in
-        let q = refuse-none (not (eqb (recordByte map k 6) 0)) 5 _ (p .1) in
-        let z = refuse-none (not (eqb (recordByte map k 7) 0)) 6 0 (q .1) in
-        record {
-          id-is = i;
-          fifth = eqb-true _ _ (not-false _ (p .0));
-          sixth = eqb-true _ _ (not-false _ (q .0));
-          seventh = eqb-true _ _ (not-false _ (z .0));
-        }
-
-    count-is : Shaped map id k → PlaceWhen words f 0 → recordRefusal words map id k ≡ countRefusal id (f .«bit_count»)
-    count-is s p = record-count words map id k (s .id-is) (no-stray s) refl (sym (place-exactly words f 0 .1 p)) refl
-
-    record-gives : (n : ℕ) → MapRecordWhen words map id k n → recordRefusal words map id k ≡ n
-    unfolding countRefusal
-    record-gives _ (bad-shape h) =
-        sym
-        (equal-or (recordByte map k 0) id
-        (λ i. record-stray words map id k i (λ s. h (shaped i s)))
-        (λ i. record-id words map id k i))
-    record-gives n (bad-place s p some) =
-        sym (record-place words map id k (s .id-is) (no-stray s) refl (sym (place-exactly words f n .1 p)) some)
-    record-gives _ (bad-count s p (inl h)) = count-is s p ∙ simp (lt-ltb _ _ h)
-    record-gives _ (bad-count s p (inr h)) =
-        count-is s p
-        ∙ either (countsOf id .min) (f .«bit_count») (λ l. simp (le-ltb _ _ l, lt-ltb _ _ h)) (λ l. simp (lt-ltb _ _ l))
-    record-gives _ (good-record s p l u) = count-is s p ∙ simp (le-ltb _ _ l, le-ltb _ _ u)
-
-    by-count : Shaped map id k → PlaceWhen words f 0 → Some (MapRecordWhen words map id k)
-    by-count s p =
-        either (countsOf id .min) (f .«bit_count»)
-        (λ l.
-        either (f .«bit_count») (countsOf id .max)
-        (λ u. (0, good-record s p l u))
-        (λ u. (6, bad-count s p (inr u))))
-        (λ l. (6, bad-count s p (inl l)))
-
-    record-some : Some (MapRecordWhen words map id k)
-    record-some =
-        equal-or (recordByte map k 0) id
-        (λ i.
-        equal-or (strayOf map k) 0
-        (λ z. let s = shaped i z in by-first (place-exactly words f) (λ p. by-count s p) (λ n p some. (n, bad-place s p some)))
-        (λ z. (3, bad-shape (λ s. z (no-stray s)))))
-        (λ i. (3, bad-shape (λ s. i (s .id-is))))
-
-    pub record-exactly : Exactly (recordRefusal words map id k) (MapRecordWhen words map id k)
-    record-exactly = exactly record-gives record-some
-
-  module _ (chip : MapChip) where
-    abbrev run : Exactly (firstOf (recordRefusals words map (idsOf chip .first)) 0 (idsOf chip .len))
-        (FirstWhen (λ k. MapRecordWhen words map (idsOf chip .first + k) k) (idsOf chip .len))
-    run = first-exactly (λ k. record-exactly (idsOf chip .first + k) k) (idsOf chip .len)
-
-    map-gives : (n : ℕ) → MapWhen words chip map n → mapRefusal words chip map ≡ n
-    map-gives _ (bad-length h) = sym (map-length words map chip refl h)
-    map-gives n (records h w) = map-records words map chip refl h ∙ run n .1 w
-
-    map-some : Some (MapWhen words chip map)
-    map-some = equal-or (length map) (8 * idsOf chip .len) (λ h. (_, records h (case run))) (λ h. (2, bad-length h))
-
-    pub map-exactly : Exactly (mapRefusal words chip map) (MapWhen words chip map)
-    map-exactly = exactly map-gives map-some
-
--- what goes by a map
-module _ (words : ℕ → ℕ) (chip : MapChip) (dump map : List ℕ) where
-  fields-gives : (n : ℕ) → FieldsWhen words chip dump map n → fieldsRefusal words chip dump map ≡ n
-  unfolding fieldsRefusal
-  fields-gives _ (fields-short d) = simp (ne-eqb _ _ d)
-  fields-gives n (fields-map d m) = simp (eq-eqb _ _ d) (map-exactly words map chip n .1 m)
-
-  fields-some : Some (FieldsWhen words chip dump map)
-  fields-some = equal-or (length dump) 88 (λ d. (_, fields-map d (case (map-exactly words map chip)))) (λ d. (1, fields-short d))
-
-  pub fields-exactly : Exactly (fieldsRefusal words chip dump map) (FieldsWhen words chip dump map)
-  fields-exactly = exactly fields-gives fields-some
-
-  module _ (unit atten : ℕ) where
-    decoding-gives : (n : ℕ) → DecodingWhen words chip dump map unit atten n → decodingRefusal words chip dump map unit atten ≡ n
-    unfolding decodingRefusal
-    decoding-gives _ (decode-short d) = simp (ne-eqb _ _ d)
-    decoding-gives _ (decode-unit d u) = simp (eq-eqb _ _ d, unit-exactly unit atten 7 .1 u)
-    decoding-gives n (decode-map d u m) = simp (eq-eqb _ _ d, unit-exactly unit atten 0 .1 u) (map-exactly words map chip n .1 m)
-
-    by-unit : length dump ≡ 88 → (n : ℕ) → UnitWhen unit atten n → Some (DecodingWhen words chip dump map unit atten)
-    by-unit d _ (bad-unit h) = (7, decode-unit d (bad-unit h))
-    by-unit d _ (good-unit u a) = (_, decode-map d (good-unit u a) (case (map-exactly words map chip)))
-
-    decoding-some : Some (DecodingWhen words chip dump map unit atten)
-    decoding-some = equal-or (length dump) 88 (λ d. by-unit d _ (case (unit-exactly unit atten))) (λ d. (1, decode-short d))
-
-    pub decoding-exactly : Exactly (decodingRefusal words chip dump map unit atten) (DecodingWhen words chip dump map unit atten)
-    decoding-exactly = exactly decoding-gives decoding-some

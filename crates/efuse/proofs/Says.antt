@@ -2,7 +2,6 @@
 use mathlib.Core.Path.{_≡_, refl}
 use mathlib.Core.List.{List}
 use Prim.Native.Nat.{ℕ}
-use Rattle.terms.specs.declared.chip.MapChip.{MapChip}
 use Rattle.terms.specs.Refuse.{outcomeOf}
 use Rattle.terms.specs.Refuse.{numberOf as numberOut}
 use Rattle.terms.specs.Says.{Says}
@@ -10,7 +9,6 @@ use Rattle.terms.proofs.Says.{Paper, says, outcome-says}
 use Rattle.efuse.specs.declared.field.EfuseField.{EfuseField}
 use Rattle.efuse.specs.declared.field.Read.the-variants.{Value, Refused}
 use Rattle.efuse.specs.Field.{readRefusal, fieldBits, numberOf, valueOf, readOf}
-use Rattle.efuse.specs.Map.{mapRefusal}
 
 read-paper : Paper numberOf valueOf 0 Value Refused
 read-paper =
@@ -25,8 +23,3 @@ module _ (words : ℕ → ℕ) (dump : List ℕ) (f : EfuseField) where
   -- `read_field_le`: what it writes is its only value
   pub read-le-says : numberOut (outcomeOf (readRefusal words dump f)) ≡ readRefusal words dump f
   read-le-says = outcome-says _
-
--- `check_map`, which has no values
-pub check-map-says : (words : ℕ → ℕ) (chip : MapChip) (map : List ℕ)
-    → numberOut (outcomeOf (mapRefusal words chip map)) ≡ mapRefusal words chip map
-check-map-says words chip map = outcome-says _

@@ -1,6 +1,6 @@
 // Replays the lists of data/ with the library's field reading and map checking; tests/oracle/README.md has their formats.
 mod fields;
-mod maps;
+mod map_checks;
 
 use replay::Layout;
 
@@ -37,7 +37,7 @@ fn same(
     match list {
         List::Fields => fields::same_field(words, case),
         List::Bytes => fields::same_bytes(words, case),
-        List::Maps => maps::same_map(good_maps, case),
+        List::Maps => map_checks::same_map(good_maps, case),
     }
 }
 

@@ -5,8 +5,9 @@ use mathlib.Core.List.{List}
 use Prim.Native.Nat.{ℕ, _≤_}
 use Rattle.terms.specs.declared.chip.MapChip.the-variants.{Esp32}
 use Rattle.terms.proofs.Refusals.{orElse-none, orElse-some, byNumber-good, byNumber-refused}
-use Rattle.efuse.specs.Decoding.{fieldsRefusal, decodingRefusal, valueAt}
-use Rattle.efuse.proofs.Decodings.{decoding-good}
+use Rattle.maps.specs.Input.{fieldsRefusal, decodingRefusal}
+use Rattle.maps.specs.Value.{valueById}
+use Rattle.maps.proofs.Inputs.{decoding-good}
 use Rattle.line.specs.declared.record.LineRecord.{LineRecord}
 use Rattle.esp32.specs.declared.characterize.Source.{Source}
 use Rattle.esp32.specs.declared.decode.Decoded.the-variants.{Record, Refused}
@@ -61,5 +62,5 @@ module _ (words : ℕ → ℕ) (dump map : List ℕ) (unit atten : ℕ) where
   decoded-passes e =
       let good = decode-good e in
       let vref = vref-range (vref-fits words dump map (good .0)) in
-      let line = line-ranges unit atten (vrefOf (valueAt Esp32 dump map 1)) (sourceOf dump map unit) (vref .1) in
+      let line = line-ranges unit atten (vrefOf (valueById Esp32 dump map 1)) (sourceOf dump map unit) (vref .1) in
       record-good _ (record { a = line .0; b = line .1; vref-least = vref .0; vref-most = vref .1; unit = good .1 .0 })

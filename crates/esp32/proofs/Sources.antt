@@ -8,9 +8,10 @@ use lib.Dec.{eqb, lit≤}
 use borrow.Author.Tests.{eq-eqb, ne-eqb}
 use Rattle.terms.specs.declared.chip.MapChip.the-variants.{Esp32}
 use Rattle.terms.proofs.Order.{picked}
-use Rattle.efuse.specs.Map.{countsOf}
-use Rattle.efuse.specs.Decoding.{fieldsRefusal, recordValue, valueAt}
-use Rattle.efuse.proofs.Decodings.{value-fits, value-is}
+use Rattle.maps.specs.Map.{countsOf}
+use Rattle.maps.specs.Input.{fieldsRefusal}
+use Rattle.maps.specs.Value.{recordValue, valueById}
+use Rattle.maps.proofs.Values.{value-fits, value-is}
 use Rattle.esp32.specs.declared.characterize.Source.{Source}
 use Rattle.esp32.specs.declared.characterize.Source.the-variants.{TwoPoint, Vref}
 use Rattle.esp32.specs.Code.{byUnit}
@@ -31,13 +32,13 @@ module _ (dump map : List ℕ) (unit : ℕ) where
 -- where nothing of a dump and a map is refused
 module _ (words : ℕ → ℕ) (dump map : List ℕ) (good : fieldsRefusal words Esp32 dump map ≡ 0) where
   -- record k's value is that of id 1 + k, and fits its bits
-  pub read : (k : ℕ) → k < 6 → {v : ℕ} → v ≡ recordValue words dump map k → v ≡ valueAt Esp32 dump map (1 + k)
+  pub read : (k : ℕ) → k < 6 → {v : ℕ} → v ≡ recordValue words dump map k → v ≡ valueById Esp32 dump map (1 + k)
   read k h = value-is words Esp32 dump map good (1 + k) k refl h
 
-  fits : (k : ℕ) → k < 6 → valueAt Esp32 dump map (1 + k) < 2 ^ countsOf (1 + k) .max
+  fits : (k : ℕ) → k < 6 → valueById Esp32 dump map (1 + k) < 2 ^ countsOf (1 + k) .max
   fits k h = value-fits words Esp32 dump map good (1 + k) k refl h _ (le-refl _)
 
-  pub vref-fits : valueAt Esp32 dump map 1 < 32
+  pub vref-fits : valueById Esp32 dump map 1 < 32
   vref-fits = fits 0 (lit≤ tt)
 
   module _ (unit : ℕ) where
@@ -56,7 +57,7 @@ module _ (words : ℕ → ℕ) (dump map : List ℕ) (good : fieldsRefusal words
 
     -- which source it is by the fields in the order in which they are read, as a `return` asks it
     module _ {reserve : ℕ} (r : reserve ≡ recordValue words dump map 1) where
-      reserve-is : reserve ≡ valueAt Esp32 dump map 2
+      reserve-is : reserve ≡ valueById Esp32 dump map 2
       reserve-is = read 1 (lit≤ tt) r
 
       pub no-reserve : (reserve ≡ 1 → ⊥) → Vref ≡ source
@@ -64,7 +65,7 @@ module _ (words : ℕ → ℕ) (dump map : List ℕ) (good : fieldsRefusal words
       no-reserve h = simp (← reserve-is, ne-eqb _ _ h)
 
       module _ (one : reserve ≡ 1) {low1 : ℕ} (l : low1 ≡ recordValue words dump map 2) where
-        low1-is : low1 ≡ valueAt Esp32 dump map 3
+        low1-is : low1 ≡ valueById Esp32 dump map 3
         low1-is = read 2 (lit≤ tt) l
 
         pub no-low1 : low1 ≡ 0 → Vref ≡ source
@@ -72,7 +73,7 @@ module _ (words : ℕ → ℕ) (dump map : List ℕ) (good : fieldsRefusal words
         no-low1 h = simp (← reserve-is, eq-eqb _ _ one, ← low1-is, eq-eqb _ _ h)
 
         module _ (some-low1 : low1 ≡ 0 → ⊥) {low2 : ℕ} (m : low2 ≡ recordValue words dump map 3) where
-          low2-is : low2 ≡ valueAt Esp32 dump map 4
+          low2-is : low2 ≡ valueById Esp32 dump map 4
           low2-is = read 3 (lit≤ tt) m
 
           pub no-low2 : low2 ≡ 0 → Vref ≡ source
@@ -80,10 +81,10 @@ module _ (words : ℕ → ℕ) (dump map : List ℕ) (good : fieldsRefusal words
           no-low2 h = simp (← reserve-is, eq-eqb _ _ one, ← low1-is, ne-eqb _ _ some-low1, ← low2-is, eq-eqb _ _ h)
 
           module _ (some-low2 : low2 ≡ 0 → ⊥) {high1 : ℕ} (n : high1 ≡ recordValue words dump map 4) where
-            high1-is : high1 ≡ valueAt Esp32 dump map 5
+            high1-is : high1 ≡ valueById Esp32 dump map 5
             high1-is = read 4 (lit≤ tt) n
 
-            used : twoPointUsed dump map ≡ not (eqb high1 0) && not (eqb (valueAt Esp32 dump map 6) 0)
+            used : twoPointUsed dump map ≡ not (eqb high1 0) && not (eqb (valueById Esp32 dump map 6) 0)
             unfolding twoPointUsed
             used =
                 simp
@@ -93,7 +94,7 @@ module _ (words : ℕ → ℕ) (dump map : List ℕ) (good : fieldsRefusal words
             no-high1 h = sym (source-vref dump map unit (used ∙ rw (eq-eqb _ _ h)))
 
             module _ (some-high1 : high1 ≡ 0 → ⊥) {high2 : ℕ} (o : high2 ≡ recordValue words dump map 5) where
-              high2-is : high2 ≡ valueAt Esp32 dump map 6
+              high2-is : high2 ≡ valueById Esp32 dump map 6
               high2-is = read 5 (lit≤ tt) o
 
               last : twoPointUsed dump map ≡ not (eqb high2 0)

@@ -8,7 +8,8 @@ use Prim.Native.Nat.{ℕ}
 use lib.Dec.{eqb}
 use Rattle.terms.specs.declared.chip.MapChip.the-variants.{Esp32}
 use Rattle.terms.specs.Refuse.{orElse, answered}
-use Rattle.efuse.specs.Decoding.{decodingRefusal, valueAt}
+use Rattle.maps.specs.Input.{decodingRefusal}
+use Rattle.maps.specs.Value.{valueById}
 use Rattle.line.specs.declared.record.LineRecord.{LineRecord}
 use Rattle.esp32.specs.declared.characterize.Source.{Source}
 use Rattle.esp32.specs.declared.characterize.Source.the-variants.{TwoPoint, Vref}
@@ -23,18 +24,18 @@ use Rattle.esp32.specs.Characterize.{coefficientsOf, sourceRefusal}
 -- "Two-point is used exactly if the reserve bit is 1 and all four codes' raw bits are nonzero"
 unfoldable pub twoPointUsed : List ℕ → List ℕ → Bool
 twoPointUsed dump map =
-    eqb (valueAt Esp32 dump map 2) 1
-    && not (eqb (valueAt Esp32 dump map 3) 0)
-    && not (eqb (valueAt Esp32 dump map 4) 0)
-    && not (eqb (valueAt Esp32 dump map 5) 0)
-    && not (eqb (valueAt Esp32 dump map 6) 0)
+    eqb (valueById Esp32 dump map 2) 1
+    && not (eqb (valueById Esp32 dump map 3) 0)
+    && not (eqb (valueById Esp32 dump map 4) 0)
+    && not (eqb (valueById Esp32 dump map 5) 0)
+    && not (eqb (valueById Esp32 dump map 6) 0)
 
 -- the raw bits of a unit's low and high codes
 abbrev pub lowBits : List ℕ → List ℕ → ℕ → ℕ
-lowBits dump map unit = byUnit unit (valueAt Esp32 dump map 3) (valueAt Esp32 dump map 4)
+lowBits dump map unit = byUnit unit (valueById Esp32 dump map 3) (valueById Esp32 dump map 4)
 
 abbrev pub highBits : List ℕ → List ℕ → ℕ → ℕ
-highBits dump map unit = byUnit unit (valueAt Esp32 dump map 5) (valueAt Esp32 dump map 6)
+highBits dump map unit = byUnit unit (valueById Esp32 dump map 5) (valueById Esp32 dump map 6)
 
 -- "else Vref"
 unfoldable pub sourceOf : List ℕ → List ℕ → ℕ → Source
@@ -44,7 +45,7 @@ sourceOf dump map unit = cond (twoPointUsed dump map) (TwoPoint (lowBits dump ma
 unfoldable pub foundOf : List ℕ → List ℕ → ℕ → ℕ → Found
 foundOf dump map unit atten =
     let source : Source = sourceOf dump map unit in
-    let vref : ℕ = valueAt Esp32 dump map 1 in
+    let vref : ℕ = valueById Esp32 dump map 1 in
     record { source = source; vref = vref; line = coefficientsOf unit atten (vrefOf vref) source }
 
 -- the record made from it; its Vref is that of id 1, whatever a and b come from

@@ -3,10 +3,10 @@ use crate::characterize;
 use crate::characterize::Coefficients;
 use crate::characterize::Source;
 use crate::code;
-use efuse::decoding::decoding_refusal;
-use efuse::decoding::value_at;
 use line::record;
 use line::record::LineRecord;
+use maps::input::decoding_refusal;
+use maps::value::record_value;
 use terms::chip::MapChip;
 use terms::refusal;
 use terms::refusal::Refusal;
@@ -14,7 +14,7 @@ ghost use mathlib.Core.Path.{_≡_};
 ghost use Prim.Native.Nat.{_<_};
 ghost use Rattle.terms.specs.declared.chip.MapChip.the-variants.{Esp32};
 ghost use Rattle.efuse.specs.Field.{eight};
-ghost use Rattle.efuse.specs.Decoding.{fieldsRefusal};
+ghost use Rattle.maps.specs.Input.{fieldsRefusal};
 ghost use Rattle.esp32.specs.Decode.{sourceOf, foundOf, recordFrom, decodeRefusal, numberOf, decodeOf};
 
 // Where an ESP32 map has its fields, whose ids are from 1 to 6.
@@ -48,22 +48,22 @@ fn source(dump: &[u32], map: &[u8], unit: u8) -> Source
     requires { ⌜ fieldsRefusal eight Esp32 (now dump) (now map) ≡ 0 ⌝ }
     ensures { λ r. ⌜ r ≡ sourceOf (now (dump .entry)) (now (map .entry)) unit ⌝ }
 {
-    if value_at(dump, map, BLK3_PART_RESERVE) != 1 {
+    if record_value(dump, map, BLK3_PART_RESERVE) != 1 {
         return Source::Vref;
     }
-    let low1 = value_at(dump, map, ADC1_TP_LOW);
+    let low1 = record_value(dump, map, ADC1_TP_LOW);
     if low1 == 0 {
         return Source::Vref;
     }
-    let low2 = value_at(dump, map, ADC2_TP_LOW);
+    let low2 = record_value(dump, map, ADC2_TP_LOW);
     if low2 == 0 {
         return Source::Vref;
     }
-    let high1 = value_at(dump, map, ADC1_TP_HIGH);
+    let high1 = record_value(dump, map, ADC1_TP_HIGH);
     if high1 == 0 {
         return Source::Vref;
     }
-    let high2 = value_at(dump, map, ADC2_TP_HIGH);
+    let high2 = record_value(dump, map, ADC2_TP_HIGH);
     if high2 == 0 {
         return Source::Vref;
     }
@@ -78,7 +78,7 @@ fn find(dump: &[u32], map: &[u8], unit: u8, atten: u8, source: Source) -> Found
     requires { ⌜ (decodeRefusal eight (now dump) (now map) unit atten ≡ 0) × (source ≡ sourceOf (now dump) (now map) unit) ⌝ }
     ensures { λ r. ⌜ r ≡ foundOf (now (dump .entry)) (now (map .entry)) unit atten ⌝ }
 {
-    let vref = value_at(dump, map, ADC_VREF);
+    let vref = record_value(dump, map, ADC_VREF);
     let line = characterize::characterize(unit, atten, code::efuse_vref(vref), source);
     Found { source, vref, line }
 }

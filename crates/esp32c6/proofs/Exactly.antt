@@ -8,9 +8,9 @@ use Rattle.terms.specs.declared.chip.MapChip.the-variants.{C6}
 use Rattle.terms.specs.Exactly.{Exactly}
 use Rattle.terms.proofs.Exactly.{Some, exactly, by-first}
 use Rattle.terms.proofs.Order.{equal-or}
-use Rattle.efuse.specs.Decoding.{decodingRefusal}
-use Rattle.efuse.specs.When.{DecodingWhen}
-use Rattle.efuse.proofs.Exactly.{decoding-exactly}
+use Rattle.maps.specs.Input.{decodingRefusal}
+use Rattle.maps.specs.When.{DecodingWhen}
+use Rattle.maps.proofs.Exactly.{decoding-exactly}
 use Rattle.esp32c6.specs.Version.{versionOf}
 use Rattle.esp32c6.specs.Code.{versionRefusal, codeRefusal}
 use Rattle.esp32c6.specs.When.{CodeWhen, before, bad-version, good-version}

@@ -8,8 +8,9 @@ use lib.IntN.{pos, natAbs, _+ℤ_}
 use Rattle.terms.specs.declared.chip.MapChip.the-variants.{C6}
 use Rattle.terms.specs.Sign.{signMagnitude}
 use Rattle.terms.proofs.Whole.{up, dn}
-use Rattle.efuse.specs.Decoding.{decodingRefusal, valueAt}
-use Rattle.efuse.proofs.Decodings.{decoding-good}
+use Rattle.maps.specs.Input.{decodingRefusal}
+use Rattle.maps.specs.Value.{valueById}
+use Rattle.maps.proofs.Inputs.{decoding-good}
 use Rattle.esp32c6.specs.Version.{versionOf}
 use Rattle.esp32c6.specs.Code.{codeRefusal, valueOf, initCodeOf, offsetOf, calCode, calCodeOf}
 use Rattle.esp32c6.specs.Channel.{chanCompensOf, valueOf as compensValue}
@@ -38,7 +39,7 @@ module _ (words : ℕ → ℕ) (dump map : List ℕ) (minor unit atten : ℕ) (g
   offset = offsetOf (versionOf minor) atten
 
   abbrev field : ℕ
-  field = valueAt C6 dump map (13 + atten)
+  field = valueById C6 dump map (13 + atten)
 
   few : field < 2 ^ 10
   few = let g = code-good words dump map minor unit atten good in cal-fits words dump map (g .0) atten (g .1)

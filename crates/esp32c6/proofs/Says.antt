@@ -7,7 +7,8 @@ use Rattle.terms.specs.declared.chip.MapChip.the-variants.{C6}
 use Rattle.terms.specs.Refuse.{unitRefusal}
 use Rattle.terms.specs.Says.{Says}
 use Rattle.terms.proofs.Says.{Paper, says}
-use Rattle.efuse.specs.Decoding.{decodingRefusal, valueAt}
+use Rattle.maps.specs.Input.{decodingRefusal}
+use Rattle.maps.specs.Value.{valueById}
 use Rattle.esp32c6.specs.declared.channel.Compens.the-variants.{Value as Compensation, Refused as No-compensation}
 use Rattle.esp32c6.specs.declared.code.Code.the-variants.{Value as Code, Refused as No-code}
 use Rattle.esp32c6.specs.declared.reference.CalMv.the-variants.{Value as Voltage, Refused as No-voltage}
@@ -34,14 +35,14 @@ cal-mv-paper =
 module _ (words : ℕ → ℕ) (dump map : List ℕ) (minor unit atten : ℕ) where
   -- `rtc_calib_init_code`
   pub init-code-says : Says code.numberOf code.valueOf 0
-      (initCodeOf words dump map minor unit atten) (codeRefusal words dump map minor unit atten) (valueAt C6 dump map (9 + atten) + 1600)
+      (initCodeOf words dump map minor unit atten) (codeRefusal words dump map minor unit atten) (valueById C6 dump map (9 + atten) + 1600)
   unfolding initCodeOf
   init-code-says = says code-paper _ _
 
   -- `rtc_calib_cal_code`
   pub cal-code-says : Says code.numberOf code.valueOf 0
       (calCodeOf words dump map minor unit atten) (codeRefusal words dump map minor unit atten)
-      (natAbs (calCode (versionOf minor) atten (valueAt C6 dump map (13 + atten))))
+      (natAbs (calCode (versionOf minor) atten (valueById C6 dump map (13 + atten))))
   unfolding calCodeOf
   cal-code-says = says code-paper _ _
 
@@ -49,7 +50,7 @@ module _ (words : ℕ → ℕ) (dump map : List ℕ) (minor unit atten : ℕ) wh
 pub compens-says : (words : ℕ → ℕ) (dump map : List ℕ) (unit channel atten : ℕ)
     → Says compens.numberOf compens.valueOf (pos 0)
     (chanCompensOf words dump map unit channel atten) (decodingRefusal words C6 dump map unit atten)
-    (compensOf atten (valueAt C6 dump map (17 + min channel 6)))
+    (compensOf atten (valueById C6 dump map (17 + min channel 6)))
 unfolding chanCompensOf
 compens-says words dump map unit channel atten = says compens-paper _ _
 

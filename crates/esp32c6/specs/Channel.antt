@@ -6,7 +6,8 @@ use lib.IntN.{ℤ, pos, _*ℤ_}
 use Rattle.terms.specs.declared.chip.MapChip.the-variants.{C6}
 use Rattle.terms.specs.Refuse.{answered}
 use Rattle.terms.specs.Sign.{signMagnitude}
-use Rattle.efuse.specs.Decoding.{decodingRefusal, valueAt}
+use Rattle.maps.specs.Input.{decodingRefusal}
+use Rattle.maps.specs.Value.{valueById}
 use Rattle.esp32c6.specs.declared.channel.Compens.{Compens}
 use Rattle.esp32c6.specs.declared.channel.Compens.the-variants.{Value, Refused}
 
@@ -27,5 +28,5 @@ compensOf atten bits = signMagnitude 4 bits *ℤ pos (4 - atten)
 unfoldable pub chanCompensOf : (ℕ → ℕ) → List ℕ → List ℕ → ℕ → ℕ → ℕ → Compens
 chanCompensOf words dump map unit channel atten =
     answered (decodingRefusal words C6 dump map unit atten)
-    (Value (compensOf atten (valueAt C6 dump map (17 + min channel 6))))
+    (Value (compensOf atten (valueById C6 dump map (17 + min channel 6))))
     Refused

@@ -9,7 +9,8 @@ use lib.IntN.{ℤ, pos, natAbs, _+ℤ_}
 use Rattle.terms.specs.declared.chip.MapChip.the-variants.{C6}
 use Rattle.terms.specs.Refuse.{refuse, orElse, answered}
 use Rattle.terms.specs.Sign.{signMagnitude}
-use Rattle.efuse.specs.Decoding.{decodingRefusal, valueAt}
+use Rattle.maps.specs.Input.{decodingRefusal}
+use Rattle.maps.specs.Value.{valueById}
 use Rattle.esp32c6.specs.declared.code.Code.{Code}
 use Rattle.esp32c6.specs.declared.code.Code.the-variants.{Value, Refused}
 use Rattle.esp32c6.specs.Version.{versionOf}
@@ -36,7 +37,7 @@ valueOf (Refused r) = 0
 -- the bits of ADC1_INIT_CODE_ATTEN0..3, ids 9 to 12, and 1600
 unfoldable pub initCodeOf : (ℕ → ℕ) → List ℕ → List ℕ → ℕ → ℕ → ℕ → Code
 initCodeOf words dump map minor unit atten =
-    answered (codeRefusal words dump map minor unit atten) (Value (valueAt C6 dump map (9 + atten) + 1600)) Refused
+    answered (codeRefusal words dump map minor unit atten) (Value (valueById C6 dump map (9 + atten) + 1600)) Refused
 
 -- 1500 in version 1; in version 2 it is 2900 at attenuation 2, which is 6 dB, and 2850 at the others
 unfoldable pub offsetOf : ℕ → ℕ → ℕ
@@ -50,5 +51,5 @@ calCode version atten bits = pos (offsetOf version atten) +ℤ signMagnitude 10 
 unfoldable pub calCodeOf : (ℕ → ℕ) → List ℕ → List ℕ → ℕ → ℕ → ℕ → Code
 calCodeOf words dump map minor unit atten =
     answered (codeRefusal words dump map minor unit atten)
-    (Value (natAbs (calCode (versionOf minor) atten (valueAt C6 dump map (13 + atten)))))
+    (Value (natAbs (calCode (versionOf minor) atten (valueById C6 dump map (13 + atten)))))
     Refused

@@ -1,8 +1,8 @@
 // The C6's compensation by channel.
 use crate::field::ADC1_INIT_CODE_ATTEN0_CH0;
 use crate::field::get_signed_val;
-use efuse::decoding::decoding_refusal;
-use efuse::decoding::value_at;
+use maps::input::decoding_refusal;
+use maps::value::record_value;
 use terms::chip::MapChip;
 use terms::refusal;
 use terms::refusal::Refusal;
@@ -53,7 +53,7 @@ pub fn rtc_calib_get_chan_compens(
     if number != refusal::NONE {
         return Compens::Refused(Refusal { number });
     }
-    let chan_diff = value_at(
+    let chan_diff = record_value(
         dump,
         map,
         ADC1_INIT_CODE_ATTEN0_CH0 + (field_channel(channel) as usize),

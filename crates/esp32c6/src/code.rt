@@ -3,8 +3,8 @@ use crate::field::ADC1_CAL_VOL_ATTEN0;
 use crate::field::ADC1_INIT_CODE_ATTEN0;
 use crate::field::get_signed_val;
 use crate::version::rtc_calib_version;
-use efuse::decoding::decoding_refusal;
-use efuse::decoding::value_at;
+use maps::input::decoding_refusal;
+use maps::value::record_value;
 use terms::chip::MapChip;
 use terms::refusal;
 use terms::refusal::Refusal;
@@ -58,7 +58,7 @@ pub fn rtc_calib_init_code(dump: &[u32], map: &[u8], minor: u8, unit: u8, atten:
     if number != refusal::NONE {
         return Code::Refused(Refusal { number });
     }
-    let init_code = value_at(dump, map, ADC1_INIT_CODE_ATTEN0 + (atten as usize));
+    let init_code = record_value(dump, map, ADC1_INIT_CODE_ATTEN0 + (atten as usize));
     Code::Value(init_code as u16 + INIT_CODE_BASE)
 }
 
@@ -92,6 +92,6 @@ pub fn rtc_calib_cal_code(dump: &[u32], map: &[u8], minor: u8, unit: u8, atten: 
     if number != refusal::NONE {
         return Code::Refused(Refusal { number });
     }
-    let cal_vol = value_at(dump, map, ADC1_CAL_VOL_ATTEN0 + (atten as usize));
+    let cal_vol = record_value(dump, map, ADC1_CAL_VOL_ATTEN0 + (atten as usize));
     Code::Value(cal_code(chk_offset(rtc_calib_version(minor), atten), cal_vol))
 }

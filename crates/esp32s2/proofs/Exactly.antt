@@ -2,29 +2,32 @@
 use mathlib.Core.Path.{_≡_, refl, sym}
 use mathlib.Core.List.{List}
 use Prim.Native.Nat.{ℕ}
-use lib.ListN.{length}
-use borrow.Author.Tests.{eq-eqb, ne-eqb}
 use Rattle.terms.specs.declared.chip.MapChip.the-variants.{S2}
 use Rattle.terms.specs.Exactly.{Exactly}
 use Rattle.terms.proofs.Exactly.{Some, exactly, case, by-first, unit-exactly}
 use Rattle.terms.proofs.Order.{equal-or}
-use Rattle.efuse.specs.Decoding.{decodingRefusal}
-use Rattle.efuse.specs.When.{DecodingWhen}
-use Rattle.efuse.proofs.Exactly.{decoding-exactly}
+use Rattle.terms.proofs.Refusals.{orElse-given}
+use Rattle.efuse.proofs.Exactly.{dump-exactly}
+use Rattle.maps.specs.Input.{decodingRefusal}
+use Rattle.maps.specs.When.{DecodingWhen}
+use Rattle.maps.proofs.Exactly.{decoding-exactly}
 use Rattle.esp32s2.specs.Version.{versionOf}
 use Rattle.esp32s2.specs.Reading.{readingRefusal}
 use Rattle.esp32s2.specs.Code.{codeRefusal}
-use Rattle.esp32s2.specs.When.{ReadingWhen, reading-short, reading-unit, CodeWhen, before, bad-version, good-version}
+use Rattle.esp32s2.specs.When.{ReadingWhen, reading-dump, reading-unit, CodeWhen, before, bad-version, good-version}
 use Rattle.esp32s2.proofs.Codes.{code-decoding, code-twelve, code-given}
 
 module _ (dump : List ℕ) (unit atten : ℕ) where
   reading-gives : (n : ℕ) → ReadingWhen dump unit atten n → readingRefusal dump unit atten ≡ n
   unfolding readingRefusal
-  reading-gives _ (reading-short d) = simp (ne-eqb _ _ d)
-  reading-gives n (reading-unit d u) = simp (eq-eqb _ _ d) (unit-exactly unit atten n .1 u)
+  reading-gives n (reading-dump d some) = orElse-given _ _ (dump-exactly dump n .1 d) some
+  reading-gives n (reading-unit d u) = rw (dump-exactly dump 0 .1 d) (unit-exactly unit atten n .1 u)
 
   reading-some : Some (ReadingWhen dump unit atten)
-  reading-some = equal-or (length dump) 88 (λ d. (_, reading-unit d (case (unit-exactly unit atten)))) (λ d. (1, reading-short d))
+  reading-some =
+      by-first (dump-exactly dump)
+      (λ d. (_, reading-unit d (case (unit-exactly unit atten))))
+      (λ n d some. (n, reading-dump d some))
 
   pub reading-exactly : Exactly (readingRefusal dump unit atten) (ReadingWhen dump unit atten)
   reading-exactly = exactly reading-gives reading-some

@@ -4,15 +4,16 @@ use mathlib.Core.List.{List}
 use Prim.Native.Nat.{ℕ, _+_, _^_, _<_}
 use Rattle.terms.specs.declared.chip.MapChip.the-variants.{S2}
 use Rattle.terms.proofs.Check.{at-most, rule}
-use Rattle.efuse.specs.Map.{countsOf}
-use Rattle.efuse.specs.Decoding.{fieldsRefusal, recordValue, valueAt}
-use Rattle.efuse.proofs.Decodings.{value-fits, value-is}
+use Rattle.maps.specs.Map.{countsOf}
+use Rattle.maps.specs.Input.{fieldsRefusal}
+use Rattle.maps.specs.Value.{recordValue, valueById}
+use Rattle.maps.proofs.Values.{value-fits, value-is}
 
 module _ (words : ℕ → ℕ) (dump map : List ℕ) (good : fieldsRefusal words S2 dump map ≡ 0) where
-  pub field-fits : (k : ℕ) → k < 2 → valueAt S2 dump map (7 + k) < 2 ^ 8
+  pub field-fits : (k : ℕ) → k < 2 → valueById S2 dump map (7 + k) < 2 ^ 8
   field-fits k h =
       value-fits words S2 dump map good (7 + k) k refl h 8 (rule (λ k. at-most (countsOf (7 + k) .max) 8) 2 tt k h)
 
   -- record k's value is that of id 7 + k
-  pub field-is : (k : ℕ) → k < 2 → {v : ℕ} → v ≡ recordValue words dump map k → v ≡ valueAt S2 dump map (7 + k)
+  pub field-is : (k : ℕ) → k < 2 → {v : ℕ} → v ≡ recordValue words dump map k → v ≡ valueById S2 dump map (7 + k)
   field-is k h = value-is words S2 dump map good (7 + k) k refl h

@@ -8,7 +8,8 @@ use Rattle.terms.specs.declared.chip.MapChip.the-variants.{S2}
 use Rattle.terms.specs.Refuse.{unitRefusal}
 use Rattle.terms.specs.Says.{Says}
 use Rattle.terms.proofs.Says.{Paper, says}
-use Rattle.efuse.specs.Decoding.{fieldsRefusal, valueAt}
+use Rattle.maps.specs.Input.{fieldsRefusal}
+use Rattle.maps.specs.Value.{valueById}
 use Rattle.esp32s2.specs.declared.code.Code.the-variants.{Value as Code, Refused as No-code}
 use Rattle.esp32s2.specs.declared.encryption.FlashEncryption.the-variants.{Value as Encryption, Refused as No-encryption}
 use Rattle.esp32s2.specs.declared.reading.Reading.the-variants.{Value as Reading, Refused as No-reading}
@@ -56,7 +57,7 @@ module _ (words : ℕ → ℕ) (dump map : List ℕ) where
 
   -- `flash_encryption`
   pub encryption-says : Says encryption.numberOf encryption.valueOf false
-      (flashEncryptionOf words dump map) (fieldsRefusal words S2 dump map) (oddOnes (valueAt S2 dump map 8))
+      (flashEncryptionOf words dump map) (fieldsRefusal words S2 dump map) (oddOnes (valueById S2 dump map 8))
   unfolding flashEncryptionOf
   encryption-says = says encryption-paper _ _
 

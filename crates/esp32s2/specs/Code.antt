@@ -7,7 +7,7 @@ use lib.Dec.{eqb}
 use lib.IntN.{natAbs}
 use Rattle.terms.specs.declared.chip.MapChip.the-variants.{S2}
 use Rattle.terms.specs.Refuse.{refuse, orElse, answered}
-use Rattle.efuse.specs.Decoding.{decodingRefusal}
+use Rattle.maps.specs.Input.{decodingRefusal}
 use Rattle.esp32s2.specs.declared.code.Code.{Code}
 use Rattle.esp32s2.specs.declared.code.Code.the-variants.{Value, Refused}
 use Rattle.esp32s2.specs.declared.tag.RtcCalibParam.{RtcCalibParam}

@@ -6,7 +6,8 @@ use Prim.Native.Nat.{ℕ, zero, suc, _+_, _/_, _%_}
 use lib.Dec.{eqb}
 use Rattle.terms.specs.declared.chip.MapChip.the-variants.{S2}
 use Rattle.terms.specs.Refuse.{answered}
-use Rattle.efuse.specs.Decoding.{fieldsRefusal, valueAt}
+use Rattle.maps.specs.Input.{fieldsRefusal}
+use Rattle.maps.specs.Value.{valueById}
 use Rattle.esp32s2.specs.declared.encryption.FlashEncryption.{FlashEncryption}
 use Rattle.esp32s2.specs.declared.encryption.FlashEncryption.the-variants.{Value, Refused}
 
@@ -31,4 +32,4 @@ valueOf (Refused r) = false
 -- by the bits of SPI_BOOT_CRYPT_CNT, id 8
 unfoldable pub flashEncryptionOf : (ℕ → ℕ) → List ℕ → List ℕ → FlashEncryption
 flashEncryptionOf words dump map =
-    answered (fieldsRefusal words S2 dump map) (Value (oddOnes (valueAt S2 dump map 8))) Refused
+    answered (fieldsRefusal words S2 dump map) (Value (oddOnes (valueById S2 dump map 8))) Refused

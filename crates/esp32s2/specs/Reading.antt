@@ -1,13 +1,13 @@
 -- Document 01, "S2, C6 and curves": the readings of the S2's table. In the crate: `rtc_calib_parsed` and `rtc_calib_reading` of
 -- efuse/esp32s2/mod.rs, from ESP-IDF's components/efuse/esp32s2/esp_efuse_rtc_table.c, line 145. Their refusals: 1, 7.
-use mathlib.Core.Bool.{Bool, true, false, not, cond}
+use mathlib.Core.Bool.{Bool, true, false, cond}
 use mathlib.Core.List.{List, []}
 use Prim.Native.Nat.{ℕ, zero, suc}
 use lib.IntN.{ℤ, pos, _+ℤ_, _*ℤ_}
-use lib.ListN.{length}
 use lib.Dec.{eqb}
-use Rattle.terms.specs.Refuse.{refuse, unitRefusal, answered}
+use Rattle.terms.specs.Refuse.{orElse, unitRefusal, answered}
 use Rattle.terms.specs.Sign.{signMagnitude}
+use Rattle.efuse.specs.Dump.{dumpRefusal}
 use Rattle.efuse.specs.Field.{bitsOf}
 use Rattle.esp32s2.specs.declared.table.RtcCalibEntry.{RtcCalibEntry}
 use Rattle.esp32s2.specs.declared.tag.RtcCalibParam.{RtcCalibParam}
@@ -33,12 +33,9 @@ within (suc n) dump skip tag =
 unfoldable pub readingOf : List ℕ → Bool → ℕ → ℤ
 readingOf = within 4
 
--- 1: the dump hasn't 88 words
--- 7: unit above 1 or attenuation above 3
+-- 1 for the dump, then 7 for unit and attenuation
 unfoldable pub readingRefusal : List ℕ → ℕ → ℕ → ℕ
-readingRefusal dump unit atten =
-    refuse (not (eqb (length dump) 88)) 1
-    (unitRefusal unit atten)
+readingRefusal dump unit atten = orElse (dumpRefusal dump) (unitRefusal unit atten)
 
 -- document 01's number and value of a reading, zeros beside a refusal
 abbrev pub numberOf : Reading → ℕ

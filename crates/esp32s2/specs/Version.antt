@@ -4,7 +4,8 @@ use mathlib.Core.List.{List}
 use Prim.Native.Nat.{ℕ}
 use Rattle.terms.specs.declared.chip.MapChip.the-variants.{S2}
 use Rattle.terms.specs.Refuse.{answered}
-use Rattle.efuse.specs.Decoding.{fieldsRefusal, valueAt}
+use Rattle.maps.specs.Input.{fieldsRefusal}
+use Rattle.maps.specs.Value.{valueById}
 use Rattle.esp32s2.specs.declared.version.Version.{Version}
 use Rattle.esp32s2.specs.declared.version.Version.the-variants.{Value, Refused}
 
@@ -19,7 +20,7 @@ valueOf (Refused r) = 0
 
 -- the bits of BLK_VERSION_MINOR, id 7
 abbrev pub versionOf : List ℕ → List ℕ → ℕ
-versionOf dump map = valueAt S2 dump map 7
+versionOf dump map = valueById S2 dump map 7
 
 unfoldable pub calibVersionOf : (ℕ → ℕ) → List ℕ → List ℕ → Version
 calibVersionOf words dump map = answered (fieldsRefusal words S2 dump map) (Value (versionOf dump map)) Refused

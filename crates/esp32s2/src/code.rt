@@ -3,8 +3,8 @@ use crate::reading::rtc_calib_parsed;
 use crate::tag::RtcCalibParam;
 use crate::tag::rtc_calib_tag;
 use crate::version::BLK_VERSION_MINOR;
-use efuse::decoding::decoding_refusal;
-use efuse::decoding::value_at;
+use maps::input::decoding_refusal;
+use maps::value::record_value;
 use terms::chip::MapChip;
 use terms::refusal;
 use terms::refusal::Refusal;
@@ -34,7 +34,7 @@ fn code_refusal(dump: &[u32], map: &[u8], unit: u8, atten: u8) -> u8
     if number != refusal::NONE {
         return number;
     }
-    if value_at(dump, map, BLK_VERSION_MINOR) != CODE_VERSION as u32 {
+    if record_value(dump, map, BLK_VERSION_MINOR) != CODE_VERSION as u32 {
         return refusal::VERSION;
     }
     refusal::NONE

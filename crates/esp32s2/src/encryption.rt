@@ -1,6 +1,6 @@
 // The S2's flash encryption.
-use efuse::decoding::fields_refusal;
-use efuse::decoding::value_at;
+use maps::input::fields_refusal;
+use maps::value::record_value;
 use terms::chip::MapChip;
 use terms::refusal;
 use terms::refusal::Refusal;
@@ -32,5 +32,5 @@ pub fn flash_encryption(dump: &[u32], map: &[u8]) -> FlashEncryption
     if number != refusal::NONE {
         return FlashEncryption::Refused(Refusal { number });
     }
-    FlashEncryption::Value(odd_ones(value_at(dump, map, SPI_BOOT_CRYPT_CNT) as u8))
+    FlashEncryption::Value(odd_ones(record_value(dump, map, SPI_BOOT_CRYPT_CNT) as u8))
 }

@@ -2,7 +2,7 @@
 use crate::table::entry_at;
 use crate::tag::RtcCalibParam;
 use crate::tag::rtc_calib_tag;
-use efuse::field::DUMP_WORDS;
+use efuse::dump::dump_refusal;
 use efuse::field::EfuseField;
 use efuse::field::Read;
 use efuse::field::read_field_u32;
@@ -88,8 +88,9 @@ pub(crate) fn rtc_calib_parsed(dump: &[u32], tag: u8, skip_efuse: bool) -> i32
 fn reading_refusal(dump: &[u32], unit: u8, atten: u8) -> u8
     ensures { λ r. ⌜ r ≡ readingRefusal (now (dump .entry)) unit atten ⌝ }
 {
-    if dump.len() != DUMP_WORDS {
-        return refusal::DUMP;
+    let number = dump_refusal(dump);
+    if number != refusal::NONE {
+        return number;
     }
     unit_refusal(unit, atten)
 }

@@ -1,6 +1,6 @@
 // The version of the S2's calibration.
-use efuse::decoding::fields_refusal;
-use efuse::decoding::value_at;
+use maps::input::fields_refusal;
+use maps::value::record_value;
 use terms::chip::MapChip;
 use terms::refusal;
 use terms::refusal::Refusal;
@@ -25,5 +25,5 @@ pub fn rtc_calib_version(dump: &[u32], map: &[u8]) -> Version
     if number != refusal::NONE {
         return Version::Refused(Refusal { number });
     }
-    Version::Value(value_at(dump, map, BLK_VERSION_MINOR) as u8)
+    Version::Value(record_value(dump, map, BLK_VERSION_MINOR) as u8)
 }

@@ -3,9 +3,11 @@ use mathlib.Core.Path.{_≡_, refl}
 use mathlib.Core.List.{map, flatten}
 use Rattle.terms.specs.Refuse.{firstOf, unitRefusal}
 use Rattle.terms.specs.Sign.{signMagnitude}
+use Rattle.efuse.specs.Dump.{dumpRefusal}
 use Rattle.efuse.specs.Field.{bitsOf, placeRefusal, fieldBits}
-use Rattle.efuse.specs.Map.{countRefusal, recordRefusal as mapRecordRefusal, mapRefusal}
-use Rattle.efuse.specs.Decoding.{decodingRefusal, valueAt}
+use Rattle.maps.specs.Map.{countRefusal, mapRecordRefusal, mapRefusal}
+use Rattle.maps.specs.Input.{decodingRefusal}
+use Rattle.maps.specs.Value.{valueById}
 use Rattle.esp32.specs.Code.{vrefOf, twoPointCode, pointOf, lowOf, highOf}
 use Rattle.esp32.specs.Characterize.{tpScale, tpOffset, vrefScale, vrefOffset, twoPointA, topOf, twoPointB, topRefusal, coefficientsOf, sourceRefusal}
 use Rattle.esp32.specs.Decode.{twoPointUsed, sourceOf, foundOf, decodedRecord, decodeRefusal, decodeOf}
@@ -28,7 +30,7 @@ unfolding
     vrefOf twoPointCode pointOf lowOf highOf signMagnitude
     tpScale tpOffset vrefScale vrefOffset twoPointA topOf twoPointB topRefusal coefficientsOf sourceRefusal
     usesLookup recordRefusal lowAt highAt lookupNumerator lookupVoltage lineVoltage blendOf beyondLine answerAt convertRefusal convertOf
-    firstOf bitsOf placeRefusal fieldBits countRefusal mapRecordRefusal mapRefusal decodingRefusal valueAt
+    firstOf dumpRefusal bitsOf placeRefusal fieldBits countRefusal mapRecordRefusal mapRefusal decodingRefusal valueById
     twoPointUsed sourceOf foundOf decodedRecord decodeRefusal decodeOf
     flatten calibMap entryAt byVersion tagOf termOf within readingOf readingRefusal calibReadingOf
     versionOf versionRefusal codeRefusal offsetOf calCode calCodeOf compensOf chanCompensOf

@@ -6,7 +6,8 @@ use denote.Ref.{now}
 use borrow.Author.Needs.{needs}
 use Rattle.terms.specs.declared.chip.MapChip.the-variants.{Esp32}
 use Rattle.efuse.specs.Field.{eight}
-use Rattle.efuse.specs.Decoding.{fieldsRefusal, valueAt}
+use Rattle.maps.specs.Input.{fieldsRefusal}
+use Rattle.maps.specs.Value.{valueById}
 use Rattle.esp32.specs.Decode.{foundOf}
 use Rattle.esp32.proofs.Codes.{vref-range}
 use Rattle.esp32.proofs.Sources.{read, vref-fits, source-in-bits}
@@ -14,16 +15,16 @@ use Rattle.esp32.proofs.Decoding.{decode-good}
 use Rattle.esp32.proofs.decode.find.Statement.{statement}
 use Rattle.esp32.proofs.decode.find.Tie as tie
 
-value-at-requires : tie.Need-value-at-requires
-value-at-requires c κs = search needs
+record-value-requires : tie.Need-record-value-requires
+record-value-requires c κs = search needs
 
 -- where nothing is refused, what was read is ADC_VREF's value
-module _ (c : tie.After-value-at) where
+module _ (c : tie.After-record-value) where
   good : let a = c .before .before .before .args in fieldsRefusal eight Esp32 (now (a .dump)) (now (a .map)) ≡ 0
   good = decode-good _ _ _ _ _ (c .before .before .before .pre .0) .0
 
-  vref : let a = c .before .before .before .args in c .value-at .result ≡ valueAt Esp32 (now (a .dump)) (now (a .map)) 1
-  vref = read _ _ _ good 0 (lit≤ tt) (c .value-at .ensures)
+  vref : let a = c .before .before .before .args in c .record-value .result ≡ valueById Esp32 (now (a .dump)) (now (a .map)) 1
+  vref = read _ _ _ good 0 (lit≤ tt) (c .record-value .ensures)
 
 efuse-vref-requires : tie.Need-efuse-vref-requires
 efuse-vref-requires c κs = rw (vref c) (vref-fits _ _ _ (good c))
@@ -42,4 +43,4 @@ returns c =
     rw (c .characterize .ensures, c .before .efuse-vref .ensures, vref p, p .before .before .before .pre .1)
 
 pub find-spec : {M : Type 1} → statement M
-find-spec = tie.close (tie.spec value-at-requires efuse-vref-requires characterize-requires returns)
+find-spec = tie.close (tie.spec record-value-requires efuse-vref-requires characterize-requires returns)

@@ -4,43 +4,43 @@ use Rattle.esp32.proofs.Sources.{no-reserve, no-low1, no-low2, no-high1
 use Rattle.esp32.proofs.decode.source.Statement.{statement}
 use Rattle.esp32.proofs.decode.source.Tie as tie
 
-value-at-requires : tie.Need-value-at-requires
-value-at-requires c κs = search needs
+record-value-requires : tie.Need-record-value-requires
+record-value-requires c κs = search needs
 
 returns : tie.Need-returns
-returns c = no-reserve _ _ _ (c .before .before .before .before .pre) _ (c .before .value-at .ensures) (c .if1 .taken)
+returns c = no-reserve _ _ _ (c .before .before .before .before .pre) _ (c .before .record-value .ensures) (c .if1 .taken)
 
-value-at-requires-2 : tie.Need-value-at-requires-2
-value-at-requires-2 c κs = search needs
+record-value-requires-2 : tie.Need-record-value-requires-2
+record-value-requires-2 c κs = search needs
 
 returns-2 : tie.Need-returns-2
 returns-2 c =
     let p = c .before .before in
-    no-low1 _ _ _ (p .before .before .before .before .pre) _ (p .before .value-at .ensures) (p .if1 .left) (c .before .value-at2 .ensures) (c .if2 .taken)
+    no-low1 _ _ _ (p .before .before .before .before .pre) _ (p .before .record-value .ensures) (p .if1 .left) (c .before .record-value2 .ensures) (c .if2 .taken)
 
-value-at-requires-3 : tie.Need-value-at-requires-3
-value-at-requires-3 c κs = search needs
+record-value-requires-3 : tie.Need-record-value-requires-3
+record-value-requires-3 c κs = search needs
 
 returns-3 : tie.Need-returns-3
 returns-3 c =
     let p = c .before .before in
     let q = p .before .before in
-    no-low2 _ _ _ (q .before .before .before .before .pre) _ (q .before .value-at .ensures) (q .if1 .left) (p .before .value-at2 .ensures) (p .if2 .left) (c .before .value-at3 .ensures)
+    no-low2 _ _ _ (q .before .before .before .before .pre) _ (q .before .record-value .ensures) (q .if1 .left) (p .before .record-value2 .ensures) (p .if2 .left) (c .before .record-value3 .ensures)
     (c .if3 .taken)
 
-value-at-requires-4 : tie.Need-value-at-requires-4
-value-at-requires-4 c κs = search needs
+record-value-requires-4 : tie.Need-record-value-requires-4
+record-value-requires-4 c κs = search needs
 
 returns-4 : tie.Need-returns-4
 returns-4 c =
     let p = c .before .before in
     let q = p .before .before in
     let s = q .before .before in
-    no-high1 _ _ _ (s .before .before .before .before .pre) _ (s .before .value-at .ensures) (s .if1 .left) (q .before .value-at2 .ensures) (q .if2 .left) (p .before .value-at3 .ensures)
-    (p .if3 .left) (c .before .value-at4 .ensures) (c .if4 .taken)
+    no-high1 _ _ _ (s .before .before .before .before .pre) _ (s .before .record-value .ensures) (s .if1 .left) (q .before .record-value2 .ensures) (q .if2 .left) (p .before .record-value3 .ensures)
+    (p .if3 .left) (c .before .record-value4 .ensures) (c .if4 .taken)
 
-value-at-requires-5 : tie.Need-value-at-requires-5
-value-at-requires-5 c κs = search needs
+record-value-requires-5 : tie.Need-record-value-requires-5
+record-value-requires-5 c κs = search needs
 
 returns-5 : tie.Need-returns-5
 returns-5 c =
@@ -48,8 +48,8 @@ returns-5 c =
     let q = p .before .before in
     let s = q .before .before in
     let t = s .before .before in
-    no-high2 _ _ _ (t .before .before .before .before .pre) _ (t .before .value-at .ensures) (t .if1 .left) (s .before .value-at2 .ensures) (s .if2 .left) (q .before .value-at3 .ensures)
-    (q .if3 .left) (p .before .value-at4 .ensures) (p .if4 .left) (c .before .value-at5 .ensures) (c .if5 .taken)
+    no-high2 _ _ _ (t .before .before .before .before .pre) _ (t .before .record-value .ensures) (t .if1 .left) (s .before .record-value2 .ensures) (s .if2 .left) (q .before .record-value3 .ensures)
+    (q .if3 .left) (p .before .record-value4 .ensures) (p .if4 .left) (c .before .record-value5 .ensures) (c .if5 .taken)
 
 by-unit-requires : tie.Need-by-unit-requires
 by-unit-requires c κs = search needs
@@ -64,23 +64,23 @@ returns-6 c =
     let q = p .before .before in
     let s = q .before .before in
     let t = s .before .before in
-    all-codes _ _ _ (t .before .before .before .before .pre) _ (t .before .value-at .ensures) (t .if1 .left) (s .before .value-at2 .ensures) (s .if2 .left) (q .before .value-at3 .ensures)
-    (q .if3 .left) (p .before .value-at4 .ensures) (p .if4 .left) (o .before .value-at5 .ensures) (o .if5 .left) (c .before .by-unit .ensures)
+    all-codes _ _ _ (t .before .before .before .before .pre) _ (t .before .record-value .ensures) (t .if1 .left) (s .before .record-value2 .ensures) (s .if2 .left) (q .before .record-value3 .ensures)
+    (q .if3 .left) (p .before .record-value4 .ensures) (p .if4 .left) (o .before .record-value5 .ensures) (o .if5 .left) (c .before .by-unit .ensures)
     (c .by-unit2 .ensures)
 
 pub source-spec : {M : Type 1} → statement M
 source-spec =
     tie.close
     (tie.spec
-    value-at-requires
+    record-value-requires
     returns
-    value-at-requires-2
+    record-value-requires-2
     returns-2
-    value-at-requires-3
+    record-value-requires-3
     returns-3
-    value-at-requires-4
+    record-value-requires-4
     returns-4
-    value-at-requires-5
+    record-value-requires-5
     returns-5
     by-unit-requires
     by-unit-requires-2

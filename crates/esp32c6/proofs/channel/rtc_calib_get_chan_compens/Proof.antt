@@ -11,8 +11,10 @@ use borrow.Author.Needs.{needs, sfits-of}
 use Rattle.terms.specs.declared.chip.MapChip.the-variants.{C6}
 use Rattle.terms.proofs.Refusals.{answered-good, answered-refused}
 use Rattle.efuse.specs.Field.{eight}
-use Rattle.efuse.specs.Decoding.{fieldsRefusal, valueAt}
-use Rattle.efuse.proofs.Decodings.{decoding-good, value-is}
+use Rattle.maps.specs.Input.{fieldsRefusal}
+use Rattle.maps.specs.Value.{valueById}
+use Rattle.maps.proofs.Inputs.{decoding-good}
+use Rattle.maps.proofs.Values.{value-is}
 use Rattle.esp32c6.specs.declared.channel.Compens.the-variants.{Value, Refused}
 use Rattle.esp32c6.specs.Channel.{compensOf, chanCompensOf}
 use Rattle.esp32c6.proofs.Fields.{channel-fits}
@@ -29,28 +31,28 @@ returns c = answered-refused _ _ Refused (c .before .decoding-refusal .ensures) 
 field-channel-requires : tie.Need-field-channel-requires
 field-channel-requires c κs = search needs
 
-cast-value-at : tie.Need-cast-value-at
-cast-value-at c = search needs
+cast-record-value : tie.Need-cast-record-value
+cast-record-value c = search needs
 
-add-value-at : tie.Need-add-value-at
-add-value-at c = search needs
+add-record-value : tie.Need-add-record-value
+add-record-value c = search needs
 
 module _ (c : tie.Else1) where
   good : let a = c .before .before .before .before .args in
       (fieldsRefusal eight C6 (now (a .dump)) (now (a .map)) ≡ 0) × ((a .unit ≤ 1) × (a .atten ≤ 3))
   good = decoding-good _ _ _ _ _ _ (sym (c .before .decoding-refusal .ensures) ∙ c .if1 .left)
 
-value-at-requires : tie.Need-value-at-requires
-value-at-requires c κs = search needs
+record-value-requires : tie.Need-record-value-requires
+record-value-requires c κs = search needs
 
 -- the field that was read
-chan-diff : (c : tie.After-value-at)
+chan-diff : (c : tie.After-record-value)
     → let a = c .before .before .before .before .before .before .args in
-    c .value-at .result ≡ valueAt C6 (now (a .dump)) (now (a .map)) (17 + min (a .channel) 6)
+    c .record-value .result ≡ valueById C6 (now (a .dump)) (now (a .map)) (17 + min (a .channel) 6)
 chan-diff c =
     let g = good (c .before .before) in
     let e = c .before .field-channel .ensures in
-    value-is _ _ _ _ (g .0) _ _ (omega (arith, e)) (omega (arith, e)) (c .value-at .ensures)
+    value-is _ _ _ _ (g .0) _ _ (omega (arith, e)) (omega (arith, e)) (c .record-value .ensures)
 
 chan-compens-requires : tie.Need-chan-compens-requires
 chan-compens-requires c κs =
@@ -72,8 +74,8 @@ rtc-calib-get-chan-compens-spec =
     decoding-refusal-requires
     returns
     field-channel-requires
-    cast-value-at
-    add-value-at
-    value-at-requires
+    cast-record-value
+    add-record-value
+    record-value-requires
     chan-compens-requires
     returns-2)

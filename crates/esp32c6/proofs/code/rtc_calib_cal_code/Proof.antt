@@ -9,8 +9,9 @@ use borrow.Author.Needs.{needs}
 use Rattle.terms.specs.declared.chip.MapChip.the-variants.{C6}
 use Rattle.terms.proofs.Refusals.{answered-good, answered-refused}
 use Rattle.efuse.specs.Field.{eight}
-use Rattle.efuse.specs.Decoding.{fieldsRefusal, valueAt}
-use Rattle.efuse.proofs.Decodings.{value-is}
+use Rattle.maps.specs.Input.{fieldsRefusal}
+use Rattle.maps.specs.Value.{valueById}
+use Rattle.maps.proofs.Values.{value-is}
 use Rattle.esp32c6.specs.declared.code.Code.the-variants.{Value, Refused}
 use Rattle.esp32c6.specs.Code.{calCode, calCodeOf}
 use Rattle.esp32c6.proofs.Codes.{code-good, offset-range}
@@ -30,16 +31,16 @@ module _ (c : tie.Else1) where
       (fieldsRefusal eight C6 (now (a .dump)) (now (a .map)) ≡ 0) × (a .atten ≤ 3)
   good = code-good _ _ _ _ _ _ (sym (c .before .code-refusal .ensures) ∙ c .if1 .left)
 
-add-value-at : tie.Need-add-value-at
-add-value-at c = search needs
+add-record-value : tie.Need-add-record-value
+add-record-value c = search needs
 
-value-at-requires : tie.Need-value-at-requires
-value-at-requires c κs = search needs
+record-value-requires : tie.Need-record-value-requires
+record-value-requires c κs = search needs
 
-value : (c : tie.After-value-at)
+value : (c : tie.After-record-value)
     → let a = c .before .before .before .before .before .args in
-    c .value-at .result ≡ valueAt C6 (now (a .dump)) (now (a .map)) (13 + a .atten)
-value c = let g = good (c .before) in value-is _ _ _ _ (g .0) _ _ (omega arith) (omega arith) (c .value-at .ensures)
+    c .record-value .result ≡ valueById C6 (now (a .dump)) (now (a .map)) (13 + a .atten)
+value c = let g = good (c .before) in value-is _ _ _ _ (g .0) _ _ (omega arith) (omega arith) (c .record-value .ensures)
 
 rtc-calib-version-requires : tie.Need-rtc-calib-version-requires
 rtc-calib-version-requires c κs = search needs
@@ -68,8 +69,8 @@ rtc-calib-cal-code-spec =
     (tie.spec
     code-refusal-requires
     returns
-    add-value-at
-    value-at-requires
+    add-record-value
+    record-value-requires
     rtc-calib-version-requires
     chk-offset-requires
     cal-code-requires

@@ -4,7 +4,7 @@ use mathlib.Core.Path.{_≡_, sym, _∙_}
 use lib.Dec.{lit≤}
 use denote.Ref.{now}
 use borrow.Author.Needs.{needs}
-use Rattle.efuse.proofs.Decodings.{decoding-good}
+use Rattle.maps.proofs.Inputs.{decoding-good}
 use Rattle.esp32s2.specs.Version.{versionOf}
 use Rattle.esp32s2.proofs.Codes.{code-decoding, code-twelve, code-given}
 use Rattle.esp32s2.proofs.Fields.{field-is}
@@ -17,16 +17,16 @@ decoding-refusal-requires c κs = search needs
 returns : tie.Need-returns
 returns c = code-decoding _ _ _ _ _ (c .before .decoding-refusal .ensures) (c .if1 .taken)
 
-value-at-requires : tie.Need-value-at-requires
-value-at-requires c κs = search needs
+record-value-requires : tie.Need-record-value-requires
+record-value-requires c κs = search needs
 
-version : (c : tie.After-value-at)
+version : (c : tie.After-record-value)
     → let a = c .before .before .before .before .before .args in
-    c .value-at .result ≡ versionOf (now (a .dump)) (now (a .map))
+    c .record-value .result ≡ versionOf (now (a .dump)) (now (a .map))
 version c =
     let p = c .before in
     let good = decoding-good _ _ _ _ _ _ (sym (p .before .decoding-refusal .ensures) ∙ p .if1 .left) in
-    field-is _ _ _ (good .0) 0 (lit≤ tt) (c .value-at .ensures)
+    field-is _ _ _ (good .0) 0 (lit≤ tt) (c .record-value .ensures)
 
 cast-if2 : tie.Need-cast-if2
 cast-if2 c = search needs
@@ -43,4 +43,4 @@ returns-3 c =
 
 pub code-refusal-spec : {M : Type 1} → statement M
 code-refusal-spec =
-    tie.close (tie.spec decoding-refusal-requires returns value-at-requires cast-if2 returns-2 returns-3)
+    tie.close (tie.spec decoding-refusal-requires returns record-value-requires cast-if2 returns-2 returns-3)

@@ -6,7 +6,8 @@ use borrow.Author.Needs.{needs}
 use Rattle.terms.specs.declared.chip.MapChip.the-variants.{S2}
 use Rattle.terms.proofs.Refusals.{answered-good, answered-refused}
 use Rattle.efuse.specs.Field.{eight}
-use Rattle.efuse.specs.Decoding.{fieldsRefusal, valueAt}
+use Rattle.maps.specs.Input.{fieldsRefusal}
+use Rattle.maps.specs.Value.{valueById}
 use Rattle.esp32s2.specs.declared.encryption.FlashEncryption.the-variants.{Value, Refused}
 use Rattle.esp32s2.specs.Encryption.{oddOnes, flashEncryptionOf}
 use Rattle.esp32s2.proofs.Fields.{field-fits, field-is}
@@ -20,16 +21,16 @@ returns : tie.Need-returns
 unfolding flashEncryptionOf
 returns c = answered-refused _ _ Refused (c .before .fields-refusal .ensures) (c .if1 .taken)
 
-value-at-requires : tie.Need-value-at-requires
-value-at-requires c κs = search needs
+record-value-requires : tie.Need-record-value-requires
+record-value-requires c κs = search needs
 
-module _ (c : tie.After-value-at) where
+module _ (c : tie.After-record-value) where
   good : let a = c .before .before .before .before .before .args in fieldsRefusal eight S2 (now (a .dump)) (now (a .map)) ≡ 0
   good = sym (c .before .before .fields-refusal .ensures) ∙ c .before .if1 .left
 
   count : let a = c .before .before .before .before .before .args in
-      c .value-at .result ≡ valueAt S2 (now (a .dump)) (now (a .map)) 8
-  count = field-is _ _ _ good 1 (lit≤ tt) (c .value-at .ensures)
+      c .record-value .result ≡ valueById S2 (now (a .dump)) (now (a .map)) 8
+  count = field-is _ _ _ good 1 (lit≤ tt) (c .record-value .ensures)
 
 cast-odd-ones : tie.Need-cast-odd-ones
 cast-odd-ones c = record { fits = rw (count c) (field-fits _ _ _ (good c) 1 (lit≤ tt)) }
@@ -45,4 +46,4 @@ returns-2 c =
 pub flash-encryption-spec : {M : Type 1} → statement M
 flash-encryption-spec =
     tie.close
-    (tie.spec fields-refusal-requires returns value-at-requires cast-odd-ones odd-ones-requires returns-2)
+    (tie.spec fields-refusal-requires returns record-value-requires cast-odd-ones odd-ones-requires returns-2)

@@ -1,20 +1,25 @@
--- `esp32s2::reading_refusal` meets its contract: the length's test decides the definition's. Assumes nothing.
+-- `esp32s2::reading_refusal` meets its contract: the dump's number comes first, where it has one. Assumes nothing.
+use mathlib.Core.Path.{sym, _∙_}
 use borrow.Author.Needs.{needs}
-use borrow.Author.Tests.{eq-eqb, ne-eqb}
+use Rattle.terms.proofs.Refusals.{orElse-given}
 use Rattle.esp32s2.specs.Reading.{readingRefusal}
 use Rattle.esp32s2.proofs.reading.reading_refusal.Statement.{statement}
 use Rattle.esp32s2.proofs.reading.reading_refusal.Tie as tie
 
+dump-refusal-requires : tie.Need-dump-refusal-requires
+dump-refusal-requires c κs = search needs
+
 returns : tie.Need-returns
 unfolding readingRefusal
-returns c = simp (ne-eqb _ _ (c .if1 .taken))
+returns c = sym (orElse-given _ _ (sym (c .before .dump-refusal .ensures)) (c .if1 .taken))
 
 unit-refusal-requires : tie.Need-unit-refusal-requires
 unit-refusal-requires c κs = search needs
 
 returns-2 : tie.Need-returns-2
 unfolding readingRefusal
-returns-2 c = simp (eq-eqb _ _ (c .before .if1 .left)) (c .unit-refusal .ensures)
+returns-2 c = rw (sym (c .before .before .dump-refusal .ensures) ∙ c .before .if1 .left) (c .unit-refusal .ensures)
 
 pub reading-refusal-spec : {M : Type 1} → statement M
-reading-refusal-spec = tie.close (tie.spec returns unit-refusal-requires returns-2)
+reading-refusal-spec =
+    tie.close (tie.spec dump-refusal-requires returns unit-refusal-requires returns-2)

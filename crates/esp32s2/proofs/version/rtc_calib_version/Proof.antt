@@ -6,7 +6,7 @@ use borrow.Author.Needs.{needs}
 use Rattle.terms.specs.declared.chip.MapChip.the-variants.{S2}
 use Rattle.terms.proofs.Refusals.{answered-good, answered-refused}
 use Rattle.efuse.specs.Field.{eight}
-use Rattle.efuse.specs.Decoding.{fieldsRefusal}
+use Rattle.maps.specs.Input.{fieldsRefusal}
 use Rattle.esp32s2.specs.declared.version.Version.the-variants.{Value, Refused}
 use Rattle.esp32s2.specs.Version.{versionOf, calibVersionOf}
 use Rattle.esp32s2.proofs.Fields.{field-fits, field-is}
@@ -20,16 +20,16 @@ returns : tie.Need-returns
 unfolding calibVersionOf
 returns c = answered-refused _ _ Refused (c .before .fields-refusal .ensures) (c .if1 .taken)
 
-value-at-requires : tie.Need-value-at-requires
-value-at-requires c κs = search needs
+record-value-requires : tie.Need-record-value-requires
+record-value-requires c κs = search needs
 
-module _ (c : tie.After-value-at) where
+module _ (c : tie.After-record-value) where
   good : let a = c .before .before .before .before .before .args in fieldsRefusal eight S2 (now (a .dump)) (now (a .map)) ≡ 0
   good = sym (c .before .before .fields-refusal .ensures) ∙ c .before .if1 .left
 
   version : let a = c .before .before .before .before .before .args in
-      c .value-at .result ≡ versionOf (now (a .dump)) (now (a .map))
-  version = field-is _ _ _ good 0 (lit≤ tt) (c .value-at .ensures)
+      c .record-value .result ≡ versionOf (now (a .dump)) (now (a .map))
+  version = field-is _ _ _ good 0 (lit≤ tt) (c .record-value .ensures)
 
 cast-t8 : tie.Need-cast-t8
 cast-t8 c = record { fits = rw (version c) (field-fits _ _ _ (good c) 0 (lit≤ tt)) }
@@ -40,4 +40,4 @@ returns-2 c = answered-good _ _ Refused (good c) (ap Value (version c))
 
 pub rtc-calib-version-spec : {M : Type 1} → statement M
 rtc-calib-version-spec =
-    tie.close (tie.spec fields-refusal-requires returns value-at-requires cast-t8 returns-2)
+    tie.close (tie.spec fields-refusal-requires returns record-value-requires cast-t8 returns-2)

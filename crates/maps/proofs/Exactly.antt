@@ -1,0 +1,138 @@
+-- Each number of a map and of what goes by it is given exactly when: each case gives its number by the laws of the refusals, and the tests
+-- leave no other case. Assumes nothing.
+use mathlib.Core.Path.{_≡_, refl, sym, _∙_}
+use mathlib.Core.Bool.{not}
+use mathlib.Core.Logic.{inl, inr}
+use mathlib.Core.List.{List}
+use Prim.Native.Nat.{ℕ, _+_, _*_}
+use lib.ListN.{length}
+use lib.Dec.{eqb}
+use borrow.Author.Tests.{eq-eqb, lt-ltb, le-ltb, eqb-true, not-false}
+use Rattle.terms.specs.declared.chip.MapChip.{MapChip}
+use Rattle.terms.specs.Exactly.{Exactly}
+use Rattle.terms.specs.Refuse.{firstOf}
+use Rattle.terms.specs.When.{FirstWhen}
+use Rattle.terms.proofs.Exactly.{Some, exactly, case, by-first, unit-exactly, first-exactly}
+use Rattle.terms.proofs.Order.{either, equal-or}
+use Rattle.terms.proofs.Refusals.{refuse-none, orElse-given}
+use Rattle.efuse.specs.declared.field.EfuseField.{EfuseField}
+use Rattle.efuse.specs.When.{PlaceWhen}
+use Rattle.efuse.proofs.Exactly.{dump-exactly, place-exactly}
+use Rattle.maps.specs.Map.{recordByte, fieldOf, strayOf, idsOf, countsOf, countRefusal, mapRecordRefusal, mapRecordRefusals, mapRefusal}
+use Rattle.maps.specs.Input.{fieldsRefusal, decodingRefusal}
+use Rattle.maps.specs.When.{Shaped, MapRecordWhen, bad-shape, bad-place, bad-count, good-record}
+use Rattle.maps.specs.When.{MapWhen, bad-length, records, FieldsWhen, fields-dump, fields-map}
+use Rattle.maps.specs.When.{DecodingWhen, decode-dump, decode-unit, decode-map}
+use Rattle.maps.proofs.Maps.{record-id, record-stray, record-place, record-count, map-length, map-records}
+
+-- a map
+module _ (words : ℕ → ℕ) (map : List ℕ) where
+  module _ (id k : ℕ) where
+    abbrev f : EfuseField
+    f = fieldOf map k
+
+    no-stray : Shaped map id k → strayOf map k ≡ 0
+    no-stray s = simp (eq-eqb _ _ (s .fifth), eq-eqb _ _ (s .sixth), eq-eqb _ _ (s .seventh))
+
+    shaped : recordByte map k 0 ≡ id → strayOf map k ≡ 0 → Shaped map id k
+    shaped i s =
+        let p = refuse-none (not (eqb (recordByte map k 5) 0)) 4 _ s in
+        let q = refuse-none (not (eqb (recordByte map k 6) 0)) 5 _ (p .1) in
+        let z = refuse-none (not (eqb (recordByte map k 7) 0)) 6 0 (q .1) in
+        record {
+          id-is = i;
+          fifth = eqb-true _ _ (not-false _ (p .0));
+          sixth = eqb-true _ _ (not-false _ (q .0));
+          seventh = eqb-true _ _ (not-false _ (z .0));
+        }
+
+    count-is : Shaped map id k → PlaceWhen words f 0 → mapRecordRefusal words map id k ≡ countRefusal id (f .«bit_count»)
+    count-is s p = record-count words map id k (s .id-is) (no-stray s) refl (sym (place-exactly words f 0 .1 p)) refl
+
+    record-gives : (n : ℕ) → MapRecordWhen words map id k n → mapRecordRefusal words map id k ≡ n
+    unfolding countRefusal
+    record-gives _ (bad-shape h) =
+        sym
+        (equal-or (recordByte map k 0) id
+        (λ i. record-stray words map id k i (λ s. h (shaped i s)))
+        (λ i. record-id words map id k i))
+    record-gives n (bad-place s p some) =
+        sym (record-place words map id k (s .id-is) (no-stray s) refl (sym (place-exactly words f n .1 p)) some)
+    record-gives _ (bad-count s p (inl h)) = count-is s p ∙ simp (lt-ltb _ _ h)
+    record-gives _ (bad-count s p (inr h)) =
+        count-is s p
+        ∙ either (countsOf id .min) (f .«bit_count») (λ l. simp (le-ltb _ _ l, lt-ltb _ _ h)) (λ l. simp (lt-ltb _ _ l))
+    record-gives _ (good-record s p l u) = count-is s p ∙ simp (le-ltb _ _ l, le-ltb _ _ u)
+
+    by-count : Shaped map id k → PlaceWhen words f 0 → Some (MapRecordWhen words map id k)
+    by-count s p =
+        either (countsOf id .min) (f .«bit_count»)
+        (λ l.
+        either (f .«bit_count») (countsOf id .max)
+        (λ u. (0, good-record s p l u))
+        (λ u. (6, bad-count s p (inr u))))
+        (λ l. (6, bad-count s p (inl l)))
+
+    record-some : Some (MapRecordWhen words map id k)
+    record-some =
+        equal-or (recordByte map k 0) id
+        (λ i.
+        equal-or (strayOf map k) 0
+        (λ z. let s = shaped i z in by-first (place-exactly words f) (λ p. by-count s p) (λ n p some. (n, bad-place s p some)))
+        (λ z. (3, bad-shape (λ s. z (no-stray s)))))
+        (λ i. (3, bad-shape (λ s. i (s .id-is))))
+
+    pub record-exactly : Exactly (mapRecordRefusal words map id k) (MapRecordWhen words map id k)
+    record-exactly = exactly record-gives record-some
+
+  module _ (chip : MapChip) where
+    abbrev run : Exactly (firstOf (mapRecordRefusals words map (idsOf chip .first)) 0 (idsOf chip .len))
+        (FirstWhen (λ k. MapRecordWhen words map (idsOf chip .first + k) k) (idsOf chip .len))
+    run = first-exactly (λ k. record-exactly (idsOf chip .first + k) k) (idsOf chip .len)
+
+    map-gives : (n : ℕ) → MapWhen words chip map n → mapRefusal words chip map ≡ n
+    map-gives _ (bad-length h) = sym (map-length words map chip refl h)
+    map-gives n (records h w) = map-records words map chip refl h ∙ run n .1 w
+
+    map-some : Some (MapWhen words chip map)
+    map-some = equal-or (length map) (8 * idsOf chip .len) (λ h. (_, records h (case run))) (λ h. (2, bad-length h))
+
+    pub map-exactly : Exactly (mapRefusal words chip map) (MapWhen words chip map)
+    map-exactly = exactly map-gives map-some
+
+-- what goes by a map
+module _ (words : ℕ → ℕ) (chip : MapChip) (dump map : List ℕ) where
+  fields-gives : (n : ℕ) → FieldsWhen words chip dump map n → fieldsRefusal words chip dump map ≡ n
+  unfolding fieldsRefusal
+  fields-gives n (fields-dump d some) = orElse-given _ _ (dump-exactly dump n .1 d) some
+  fields-gives n (fields-map d m) = rw (dump-exactly dump 0 .1 d) (map-exactly words map chip n .1 m)
+
+  fields-some : Some (FieldsWhen words chip dump map)
+  fields-some =
+      by-first (dump-exactly dump)
+      (λ d. (_, fields-map d (case (map-exactly words map chip))))
+      (λ n d some. (n, fields-dump d some))
+
+  pub fields-exactly : Exactly (fieldsRefusal words chip dump map) (FieldsWhen words chip dump map)
+  fields-exactly = exactly fields-gives fields-some
+
+  module _ (unit atten : ℕ) where
+    decoding-gives : (n : ℕ) → DecodingWhen words chip dump map unit atten n → decodingRefusal words chip dump map unit atten ≡ n
+    unfolding decodingRefusal
+    decoding-gives n (decode-dump d some) = orElse-given _ _ (dump-exactly dump n .1 d) some
+    decoding-gives n (decode-unit d u some) =
+        rw (dump-exactly dump 0 .1 d) (orElse-given _ _ (unit-exactly unit atten n .1 u) some)
+    decoding-gives n (decode-map d u m) =
+        rw (dump-exactly dump 0 .1 d, unit-exactly unit atten 0 .1 u) (map-exactly words map chip n .1 m)
+
+    decoding-some : Some (DecodingWhen words chip dump map unit atten)
+    decoding-some =
+        by-first (dump-exactly dump)
+        (λ d.
+        by-first (unit-exactly unit atten)
+        (λ u. (_, decode-map d u (case (map-exactly words map chip))))
+        (λ n u some. (n, decode-unit d u some)))
+        (λ n d some. (n, decode-dump d some))
+
+    pub decoding-exactly : Exactly (decodingRefusal words chip dump map unit atten) (DecodingWhen words chip dump map unit atten)
+    decoding-exactly = exactly decoding-gives decoding-some

@@ -1,0 +1,25 @@
+-- `maps::fields_refusal` meets its contract: the dump's number comes first, where it has one. Assumes nothing.
+use mathlib.Core.Path.{sym, _∙_}
+use borrow.Author.Needs.{needs}
+use Rattle.terms.proofs.Refusals.{orElse-given}
+use Rattle.maps.specs.Input.{fieldsRefusal}
+use Rattle.maps.proofs.input.fields_refusal.Statement.{statement}
+use Rattle.maps.proofs.input.fields_refusal.Tie as tie
+
+dump-refusal-requires : tie.Need-dump-refusal-requires
+dump-refusal-requires c κs = search needs
+
+returns : tie.Need-returns
+unfolding fieldsRefusal
+returns c = sym (orElse-given _ _ (sym (c .before .dump-refusal .ensures)) (c .if1 .taken))
+
+map-refusal-requires : tie.Need-map-refusal-requires
+map-refusal-requires c κs = search needs
+
+returns-2 : tie.Need-returns-2
+unfolding fieldsRefusal
+returns-2 c = rw (sym (c .before .before .dump-refusal .ensures) ∙ c .before .if1 .left) (c .map-refusal .ensures)
+
+pub fields-refusal-spec : {M : Type 1} → statement M
+fields-refusal-spec =
+    tie.close (tie.spec dump-refusal-requires returns map-refusal-requires returns-2)

@@ -1,0 +1,23 @@
+-- Document 01, "Numbers given when a call is turned down": "Order: 1, 7, 2, then map records first to last with 3, 4, 5, 6 within
+-- each", which comes before what a call has of its own.
+use mathlib.Core.List.{List}
+use Prim.Native.Nat.{ℕ}
+use Rattle.terms.specs.declared.chip.MapChip.{MapChip}
+use Rattle.terms.specs.Refuse.{orElse, unitRefusal}
+use Rattle.efuse.specs.Dump.{dumpRefusal}
+use Rattle.maps.specs.Map.{mapRefusal}
+
+-- of a call that takes no unit and no attenuation
+-- 1 for the dump
+-- then 2 to 6 for the map
+unfoldable pub fieldsRefusal : (ℕ → ℕ) → MapChip → List ℕ → List ℕ → ℕ
+fieldsRefusal words chip dump map = orElse (dumpRefusal dump) (mapRefusal words chip map)
+
+-- 1 for the dump
+-- 7 for unit and attenuation
+-- then 2 to 6 for the map
+unfoldable pub decodingRefusal : (ℕ → ℕ) → MapChip → List ℕ → List ℕ → ℕ → ℕ → ℕ
+decodingRefusal words chip dump map unit atten =
+    orElse (dumpRefusal dump)
+    (orElse (unitRefusal unit atten)
+    (mapRefusal words chip map))

@@ -1,0 +1,4 @@
+pub mod Input
+pub mod Map
+pub mod Value
+pub mod When

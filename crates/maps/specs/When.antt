@@ -1,0 +1,49 @@
+-- Document 01, "Numbers given when a call is turned down": when a map and what goes by it give each number.
+-- A case says too that nothing before it in the call's order is given; 0 is given where the call isn't turned down.
+use mathlib.Core.Path.{_≡_}
+use mathlib.Core.Logic.{_⊎_}
+use mathlib.Core.List.{List}
+use Prim.Native.Nat.{ℕ, _+_, _*_, _≤_, _<_}
+use lib.ListN.{length}
+use Rattle.terms.specs.declared.chip.MapChip.{MapChip}
+use Rattle.terms.specs.When.{UnitWhen, FirstWhen}
+use Rattle.efuse.specs.When.{DumpWhen, PlaceWhen}
+use Rattle.maps.specs.Map.{recordByte, fieldOf, idsOf, countsOf}
+
+-- a map record's id and zero bytes
+pub record Shaped (map : List ℕ) (id k : ℕ) : Type 0 where
+  pub id-is : recordByte map k 0 ≡ id
+  pub fifth : recordByte map k 5 ≡ 0
+  pub sixth : recordByte map k 6 ≡ 0
+  pub seventh : recordByte map k 7 ≡ 0
+
+-- record k of a map, which should have that id: "3, 4, 5, 6 within each"
+-- 3: "a map record's id or a zero byte is wrong"
+-- 4, 5: its field's place
+-- 6: "bit count not as in the table"
+pub data MapRecordWhen (words : ℕ → ℕ) (map : List ℕ) (id k : ℕ) : ℕ → Type 0 where
+  bad-shape : (Shaped map id k → ⊥) → MapRecordWhen words map id k 3
+  bad-place : {n : ℕ} → Shaped map id k → PlaceWhen words (fieldOf map k) n → (n ≡ 0 → ⊥) → MapRecordWhen words map id k n
+  bad-count : Shaped map id k → PlaceWhen words (fieldOf map k) 0
+      → (fieldOf map k .«bit_count» < countsOf id .min) ⊎ (countsOf id .max < fieldOf map k .«bit_count») → MapRecordWhen words map id k 6
+  good-record : Shaped map id k → PlaceWhen words (fieldOf map k) 0
+      → countsOf id .min ≤ fieldOf map k .«bit_count» → fieldOf map k .«bit_count» ≤ countsOf id .max → MapRecordWhen words map id k 0
+
+-- a map: "2, then map records first to last"
+-- 2: "the map's length isn't its chip's"
+pub data MapWhen (words : ℕ → ℕ) (chip : MapChip) (map : List ℕ) : ℕ → Type 0 where
+  bad-length : (length map ≡ 8 * idsOf chip .len → ⊥) → MapWhen words chip map 2
+  records : {n : ℕ} → length map ≡ 8 * idsOf chip .len
+      → FirstWhen (λ k. MapRecordWhen words map (idsOf chip .first + k) k) (idsOf chip .len) n → MapWhen words chip map n
+
+-- a dump and a chip's map: 1, then the map's
+pub data FieldsWhen (words : ℕ → ℕ) (chip : MapChip) (dump map : List ℕ) : ℕ → Type 0 where
+  fields-dump : {n : ℕ} → DumpWhen dump n → (n ≡ 0 → ⊥) → FieldsWhen words chip dump map n
+  fields-map : {n : ℕ} → DumpWhen dump 0 → MapWhen words chip map n → FieldsWhen words chip dump map n
+
+-- with a unit and an attenuation: "Order: 1, 7, 2, then map records"
+pub data DecodingWhen (words : ℕ → ℕ) (chip : MapChip) (dump map : List ℕ) (unit atten : ℕ) : ℕ → Type 0 where
+  decode-dump : {n : ℕ} → DumpWhen dump n → (n ≡ 0 → ⊥) → DecodingWhen words chip dump map unit atten n
+  decode-unit : {n : ℕ} → DumpWhen dump 0 → UnitWhen unit atten n → (n ≡ 0 → ⊥) → DecodingWhen words chip dump map unit atten n
+  decode-map : {n : ℕ} → DumpWhen dump 0 → UnitWhen unit atten 0 → MapWhen words chip map n
+      → DecodingWhen words chip dump map unit atten n

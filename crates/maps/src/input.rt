@@ -1,0 +1,35 @@
+// What a call that goes by a map checks of its input before it reads a field, in document 01's order: 1, 7, then the map's.
+use crate::map::map_refusal;
+use efuse::dump::dump_refusal;
+use terms::chip::MapChip;
+use terms::refusal;
+use terms::refusal::unit_refusal;
+ghost use mathlib.Core.Path.{_≡_};
+ghost use Rattle.efuse.specs.Field.{eight};
+ghost use Rattle.maps.specs.Input.{fieldsRefusal, decodingRefusal};
+
+// The first thing wrong with a dump and a chip's map: 1, then the map's; 0 where each of the map's fields may be read.
+pub fn fields_refusal(chip: MapChip, dump: &[u32], map: &[u8]) -> u8
+    ensures { λ r. ⌜ r ≡ fieldsRefusal eight chip (now (dump .entry)) (now (map .entry)) ⌝ }
+{
+    let number = dump_refusal(dump);
+    if number != refusal::NONE {
+        return number;
+    }
+    map_refusal(chip, map)
+}
+
+// The same for a unit and an attenuation: 1, 7, then the map's.
+pub fn decoding_refusal(chip: MapChip, dump: &[u32], map: &[u8], unit: u8, atten: u8) -> u8
+    ensures { λ r. ⌜ r ≡ decodingRefusal eight chip (now (dump .entry)) (now (map .entry)) unit atten ⌝ }
+{
+    let short = dump_refusal(dump);
+    if short != refusal::NONE {
+        return short;
+    }
+    let number = unit_refusal(unit, atten);
+    if number != refusal::NONE {
+        return number;
+    }
+    map_refusal(chip, map)
+}
