@@ -1,4 +1,4 @@
-// Channel compensation.
+// The C6's channel compensation.
 use capi::answer::SkvReading;
 use capi::answer::reading_c;
 use esp32c6::channel;
@@ -9,6 +9,7 @@ ghost use Rattle.efuse.specs.Field.{eight};
 ghost use Rattle.esp32c6.specs.Channel.{chanCompensOf};
 ghost use Rattle.capi_c6.specs.Channel.{compensC};
 
+// What C is given of a compensation.
 fn compens_c(compens: Compens) -> SkvReading
     ensures { λ r. ⌜ r ≡ compensC compens ⌝ }
 {

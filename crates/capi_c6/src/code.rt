@@ -1,4 +1,4 @@
-// The ADC's codes.
+// The C6's codes.
 use capi::answer::SkvCode;
 use capi::answer::code_c;
 use esp32c6::code;
@@ -9,7 +9,7 @@ ghost use Rattle.efuse.specs.Field.{eight};
 ghost use Rattle.esp32c6.specs.Code.{initCodeOf, calCodeOf};
 ghost use Rattle.capi_c6.specs.Code.{c6CodeC};
 
-// What C is given of each of the C6's answers.
+// What C is given of a code.
 fn c6_code_c(code: Code) -> SkvCode
     ensures { λ r. ⌜ r ≡ c6CodeC code ⌝ }
 {

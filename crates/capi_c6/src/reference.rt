@@ -1,4 +1,4 @@
-// Reference voltages.
+// The C6's reference voltages.
 use capi::answer::SkvVoltage;
 use capi::answer::voltage_c;
 use esp32c6::reference;
@@ -9,6 +9,7 @@ ghost use mathlib.Core.Path.{_≡_};
 ghost use Rattle.esp32c6.specs.Reference.{calMvOf};
 ghost use Rattle.capi_c6.specs.Reference.{c6CalMvC};
 
+// What C is given of a reference voltage.
 fn c6_cal_mv_c(cal_mv: CalMv) -> SkvVoltage
     ensures { λ r. ⌜ r ≡ c6CalMvC «cal_mv» ⌝ }
 {

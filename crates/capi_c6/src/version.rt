@@ -1,4 +1,4 @@
-// The calibration's version.
+// The C6's version.
 use esp32c6::version;
 ghost use mathlib.Core.Path.{_≡_};
 ghost use Rattle.esp32c6.specs.Version.{versionOf};

@@ -1,4 +1,4 @@
-// The ADC's codes.
+// The S2's codes.
 use capi::answer::SkvCode;
 use capi::answer::code_c;
 use esp32s2::code;
@@ -9,6 +9,7 @@ ghost use Rattle.efuse.specs.Field.{eight};
 ghost use Rattle.esp32s2.specs.Code.{initCodeOf, calCodeOf};
 ghost use Rattle.capi_s2.specs.Code.{s2CodeC};
 
+// What C is given of a code.
 fn s2_code_c(code: Code) -> SkvCode
     ensures { λ r. ⌜ r ≡ s2CodeC code ⌝ }
 {

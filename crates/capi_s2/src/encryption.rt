@@ -1,4 +1,4 @@
-// Flash encryption.
+// The S2's flash encryption.
 use capi::answer::SkvRefusal;
 use capi::answer::refusal_c;
 use capi::answer::yes_or_no;
@@ -17,6 +17,7 @@ pub struct SkvFlashEncryption {
     pub on: u8,
 }
 
+// What C is given of that.
 fn flash_encryption_c(answer: FlashEncryption) -> SkvFlashEncryption
     ensures { λ r. ⌜ r ≡ flashEncryptionC answer ⌝ }
 {

@@ -1,4 +1,4 @@
-// Readings of the calibration table, a call for each parameter.
+// Readings of the S2's calibration table, a call for each parameter.
 use capi::answer::SkvReading;
 use capi::answer::reading_c;
 use esp32s2::reading;
@@ -10,6 +10,7 @@ ghost use Rattle.esp32s2.specs.declared.tag.RtcCalibParam.the-variants.{Vlow, V
 ghost use Rattle.esp32s2.specs.Reading.{calibReadingOf, skippedReadingOf};
 ghost use Rattle.capi_s2.specs.Reading.{s2ReadingC};
 
+// What C is given of a reading.
 fn s2_reading_c(reading: Reading) -> SkvReading
     ensures { λ r. ⌜ r ≡ s2ReadingC reading ⌝ }
 {

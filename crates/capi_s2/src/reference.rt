@@ -1,4 +1,4 @@
-// Reference voltages.
+// The S2's reference voltages.
 use capi::answer::SkvVoltage;
 use capi::answer::voltage_c;
 use esp32s2::reference;
@@ -9,6 +9,7 @@ ghost use mathlib.Core.Path.{_≡_};
 ghost use Rattle.esp32s2.specs.Reference.{calMvOf};
 ghost use Rattle.capi_s2.specs.Reference.{s2CalMvC};
 
+// What C is given of a reference voltage.
 fn s2_cal_mv_c(cal_mv: CalMv) -> SkvVoltage
     ensures { λ r. ⌜ r ≡ s2CalMvC «cal_mv» ⌝ }
 {

@@ -1,4 +1,4 @@
-// The calibration's version.
+// The S2's version.
 use capi::answer::SkvRefusal;
 use capi::answer::refusal_c;
 use esp32s2::version;
@@ -16,7 +16,7 @@ pub struct SkvVersion {
     pub version: u8,
 }
 
-// What C is given of each of the S2's answers.
+// What C is given of a version.
 fn version_c(version: Version) -> SkvVersion
     ensures { λ r. ⌜ r ≡ versionC version ⌝ }
 {
