@@ -1,13 +1,17 @@
 /* Suongkivat for C: raw ADC counts of ESP32 boards and their kin into millivolts.
 
-   Each call answers any input, and either gives its values or is turned down with a number of the table below; a refusal has zeros for
-   values, and leaves lent memory as it was. Number 0 is no refusal. The calls are proved to give exactly the answers of the definitions
-   in crates/, for whatever is handed in; what the proof takes for granted of a C caller is that each pointer has the length beside it
-   in readable memory (writable for bytes and out), and that no lent memory that a call writes overlaps any other that it is handed.
-   A length of 0 still takes a pointer that isn't null.
+   Answers. Each call answers any input, and either gives its values or is turned down with a number of the table below; a refusal has
+   zeros for values, and leaves lent memory as it was. Number 0 is no refusal. The calls are proved to give exactly the answers of the
+   definitions in crates/, for whatever is handed in.
 
-   A dump is 88 words: blocks 0 to 10, eight words each. A map is records of 8 bytes: 48 bytes for ESP32, 16 for S2, 120 for C6. Units
-   are 0 and 1; attenuations 0, 1, 2, 3 are 0, 2.5, 6 and 11 dB. "the map's" below are 2, then for each record 3, 4, 5, 6. */
+   Memory. A length counts elements: words of a dump, bytes of a map or a log, numbers of a list. What the proof takes for granted of a
+   caller is that each pointer has the length beside it in readable memory (writable for bytes and millivolts), and that no lent memory
+   that a call writes overlaps any other that it is handed. Empty memory is a length of 0 beside a pointer to anything: no element is
+   read, but the pointer must not be null. So no call takes NULL, 0. Nothing is kept after a call, and no call allocates.
+
+   Threads. The library has no state: any number of threads may call at once, as long as none writes what another has lent.
+
+   Units are 0 and 1; attenuations 0, 1, 2, 3 are 0, 2.5, 6 and 11 dB. */
 #ifndef SUONGKIVAT_H
 #define SUONGKIVAT_H
 
@@ -18,21 +22,37 @@
 extern "C" {
 #endif
 
-/* Why a call was turned down. */
+/* The version of this header and its library. The first number changes where a caller has to be changed or compiled anew, the second
+   where something was added. */
+#define SKV_VERSION_MAJOR 1
+#define SKV_VERSION_MINOR 0
+#define SKV_VERSION "1.0"
+
+/* Lengths, in elements. */
 enum {
-    SKV_NONE = 0,
+    SKV_DUMP_WORDS = 88,      /* blocks 0 to 10, eight words each */
+    SKV_ESP32_MAP_BYTES = 48, /* a map is records of 8 bytes, one a field of its chip */
+    SKV_S2_MAP_BYTES = 16,
+    SKV_C6_MAP_BYTES = 120,
+    SKV_SAMPLE_BYTES = 4, /* a record of a log */
+    SKV_COUNTS = 4096     /* counts are 0 to 4095: a table of all their millivolts */
+};
+
+/* Why a call was turned down. A call that takes a map gives 2, then for each record from first to last 3, 4, 5, 6: "the map's" below. */
+enum {
+    SKV_NONE = 0,         /* it wasn't */
     SKV_DUMP = 1,         /* the dump hasn't 88 words */
     SKV_MAP = 2,          /* the map's length isn't its chip's */
     SKV_MAP_RECORD = 3,   /* a map record's id or a zero byte is wrong */
     SKV_BLOCK = 4,        /* block above 10 */
     SKV_BIT_RANGE = 5,    /* bit start above 255, or start + count above 256 */
-    SKV_BIT_COUNT = 6,    /* bit count not as in the table */
+    SKV_BIT_COUNT = 6,    /* a map record's bit count isn't its id's */
     SKV_UNIT = 7,         /* unit above 1 or attenuation above 3 */
-    SKV_RAW = 8,          /* raw above 4095 */
-    SKV_UNDERFLOW = 9,    /* two-point coefficient underflow */
+    SKV_RAW = 8,          /* count above 4095 */
+    SKV_UNDERFLOW = 9,    /* the two points leave the line no offset */
     SKV_LINE_RECORD = 10, /* line record outside its ranges */
     SKV_STRETCH = 11,     /* a stretch whose first count plus length is above 4096 */
-    SKV_VERSION = 12,     /* S2 version not 2, or C6 version not 1 or 2 */
+    SKV_NO_CODE = 12,     /* no code in that version: S2 version not 2, or C6 version not 1 or 2 */
     SKV_LINE_ANSWER = 13, /* line answer above 4095 given to the curve */
     SKV_CURVE = 14,       /* no curve for that chip and unit */
     SKV_BOARD = 15,       /* board above 1, or a sample's last byte above 7 */
@@ -143,96 +163,119 @@ typedef struct SkvNext {
     SkvSample sample;
 } SkvNext;
 
+/* Calls. Each has its refusals in the order in which they are given. */
+
 /* Fields. */
 
-/* A field's value at 8, 16 or 32 bits: its low bits. Refusals 1, 4, 5. */
+/* A field's value at 8, 16 or 32 bits: its low bits.
+   Refusals 1 (dump), 4 (block), 5 (bit range). */
 SkvRead skv_read_field_u8(const uint32_t *dump, size_t dump_len, SkvField field);
 SkvRead skv_read_field_u16(const uint32_t *dump, size_t dump_len, SkvField field);
 SkvRead skv_read_field_u32(const uint32_t *dump, size_t dump_len, SkvField field);
 
-/* Reads a field into the lent bytes, low first; all of them are written. Refusals 1, 4, 5. */
+/* Reads a field into the lent bytes, low first; all of them are written.
+   Refusals 1 (dump), 4 (block), 5 (bit range). */
 SkvOutcome skv_read_field_le(const uint32_t *dump, size_t dump_len, SkvField field, uint8_t *bytes, size_t bytes_len);
 
-/* Where a block's words stand in the chosen board's dump, which alone is checked. Refusals 15, 1, 4. */
-SkvView skv_view(const uint32_t *field, size_t field_len, const uint32_t *reference, size_t reference_len, uint8_t board,
-                 uint8_t block);
+/* Where a block's words stand in the chosen board's dump, which alone is checked.
+   Refusals 15 (board), 1 (dump), 4 (block). */
+SkvView skv_view(const uint32_t *field_dump, size_t field_dump_len, const uint32_t *reference_dump, size_t reference_dump_len,
+                 uint8_t board, uint8_t block);
 
 /* Maps. */
 
-/* Whether a map is its chip's. Refusals: the map's. No map is that of a chip other than ESP32, S2 and C6: 2. */
+/* Whether a map is its chip's. No map is that of a chip other than ESP32, S2 and C6: 2.
+   Refusals: the map's. */
 SkvOutcome skv_check_map(uint8_t chip, const uint8_t *map, size_t map_len);
 
 /* ESP32 line calibration. */
 
-/* The line record of a unit at an attenuation. Refusals 1, 7, the map's, 9. */
-SkvDecoded skv_decode(const uint32_t *dump, size_t dump_len, const uint8_t *map, size_t map_len, uint8_t unit, uint8_t atten);
+/* The line record of a unit at an attenuation.
+   Refusals 1 (dump), 7 (unit or attenuation), the map's, 9 (underflow). */
+SkvDecoded skv_decode(const uint32_t *dump, size_t dump_len, const uint8_t *map, size_t map_len, uint8_t unit, uint8_t attenuation);
 
-/* Whether a record is inside its ranges. Refusal 10. */
-SkvOutcome skv_check_record(SkvLineRecord cal);
+/* Whether a record is inside its ranges.
+   Refusal 10 (line record). */
+SkvOutcome skv_check_record(SkvLineRecord record);
 
-/* The millivolts of a count, at most 12,285. Refusals 10, 8. */
-SkvVoltage skv_convert(SkvLineRecord cal, SkvCount count);
+/* The millivolts of a count, at most 12,285.
+   Refusals 10 (line record), 8 (count). */
+SkvVoltage skv_convert(SkvLineRecord record, SkvCount count);
 
-/* Writes the millivolts of the counts from a first one on into the lent list, all of it. Refusals 10, 11. */
-SkvOutcome skv_fill(SkvLineRecord cal, SkvCount first, uint16_t *out, size_t out_len);
+/* Writes the millivolts of the counts from a first one on into the lent list, all of it.
+   Refusals 10 (line record), 11 (stretch). */
+SkvOutcome skv_fill(SkvLineRecord record, SkvCount first_count, uint16_t *millivolts, size_t millivolts_len);
 
 /* The S2. */
 
-/* The calibration's version. Refusals 1, the map's. */
+/* The calibration's version.
+   Refusals 1 (dump), the map's. */
 SkvVersion skv_s2_version(const uint32_t *dump, size_t dump_len, const uint8_t *map, size_t map_len);
 
-/* A parameter's reading by a version, 0 where the two don't pair: low voltage, high voltage, initial code. Refusals 1, 7. */
-SkvReading skv_s2_reading_vlow(const uint32_t *dump, size_t dump_len, uint8_t version, uint8_t unit, uint8_t atten);
-SkvReading skv_s2_reading_vhigh(const uint32_t *dump, size_t dump_len, uint8_t version, uint8_t unit, uint8_t atten);
-SkvReading skv_s2_reading_vinit(const uint32_t *dump, size_t dump_len, uint8_t version, uint8_t unit, uint8_t atten);
+/* A parameter's reading by a version, 0 where the two don't pair: low voltage, high voltage, initial code.
+   Refusals 1 (dump), 7 (unit or attenuation). */
+SkvReading skv_s2_reading_vlow(const uint32_t *dump, size_t dump_len, uint8_t version, uint8_t unit, uint8_t attenuation);
+SkvReading skv_s2_reading_vhigh(const uint32_t *dump, size_t dump_len, uint8_t version, uint8_t unit, uint8_t attenuation);
+SkvReading skv_s2_reading_vinit(const uint32_t *dump, size_t dump_len, uint8_t version, uint8_t unit, uint8_t attenuation);
 
-/* The same with the eFuse skipped. Refusal 7. */
-SkvReading skv_s2_skipped_vlow(uint8_t version, uint8_t unit, uint8_t atten);
-SkvReading skv_s2_skipped_vhigh(uint8_t version, uint8_t unit, uint8_t atten);
-SkvReading skv_s2_skipped_vinit(uint8_t version, uint8_t unit, uint8_t atten);
+/* The same with the eFuse skipped.
+   Refusal 7 (unit or attenuation). */
+SkvReading skv_s2_skipped_vlow(uint8_t version, uint8_t unit, uint8_t attenuation);
+SkvReading skv_s2_skipped_vhigh(uint8_t version, uint8_t unit, uint8_t attenuation);
+SkvReading skv_s2_skipped_vinit(uint8_t version, uint8_t unit, uint8_t attenuation);
 
-/* The initial code, and the code at the reference voltage. Refusals 1, 7, the map's, 12. */
-SkvCode skv_s2_init_code(const uint32_t *dump, size_t dump_len, const uint8_t *map, size_t map_len, uint8_t unit, uint8_t atten);
-SkvCode skv_s2_cal_code(const uint32_t *dump, size_t dump_len, const uint8_t *map, size_t map_len, uint8_t unit, uint8_t atten);
+/* The initial code, and the code at the reference voltage.
+   Refusals 1 (dump), 7 (unit or attenuation), the map's, 12 (no code). */
+SkvCode skv_s2_init_code(const uint32_t *dump, size_t dump_len, const uint8_t *map, size_t map_len, uint8_t unit,
+                         uint8_t attenuation);
+SkvCode skv_s2_cal_code(const uint32_t *dump, size_t dump_len, const uint8_t *map, size_t map_len, uint8_t unit,
+                        uint8_t attenuation);
 
-/* The reference voltage of an attenuation. Refusal 7. */
-SkvVoltage skv_s2_cal_mv(uint8_t unit, uint8_t atten);
+/* The reference voltage of an attenuation.
+   Refusal 7 (unit or attenuation). */
+SkvVoltage skv_s2_cal_mv(uint8_t unit, uint8_t attenuation);
 
-/* Whether flash encryption is on. Refusals 1, the map's. */
+/* Whether flash encryption is on.
+   Refusals 1 (dump), the map's. */
 SkvFlashEncryption skv_s2_flash_encryption(const uint32_t *dump, size_t dump_len, const uint8_t *map, size_t map_len);
 
-/* The C6. minor is the minor block version. */
+/* The C6. */
 
 /* The calibration's version: 1 or 2, or 0 where there is none. No refusal. */
-uint8_t skv_c6_version(uint8_t minor);
+uint8_t skv_c6_version(uint8_t minor_block_version);
 
-/* The initial code, and the code at the reference voltage. Refusals 1, 7, the map's, 12. */
-SkvCode skv_c6_init_code(const uint32_t *dump, size_t dump_len, const uint8_t *map, size_t map_len, uint8_t minor, uint8_t unit,
-                         uint8_t atten);
-SkvCode skv_c6_cal_code(const uint32_t *dump, size_t dump_len, const uint8_t *map, size_t map_len, uint8_t minor, uint8_t unit,
-                        uint8_t atten);
+/* The initial code, and the code at the reference voltage.
+   Refusals 1 (dump), 7 (unit or attenuation), the map's, 12 (no code). */
+SkvCode skv_c6_init_code(const uint32_t *dump, size_t dump_len, const uint8_t *map, size_t map_len, uint8_t minor_block_version,
+                         uint8_t unit, uint8_t attenuation);
+SkvCode skv_c6_cal_code(const uint32_t *dump, size_t dump_len, const uint8_t *map, size_t map_len, uint8_t minor_block_version,
+                        uint8_t unit, uint8_t attenuation);
 
-/* A channel's compensation; channels 6 and up use channel 6. Refusals 1, 7, the map's. */
+/* A channel's compensation; channels 6 and up use channel 6.
+   Refusals 1 (dump), 7 (unit or attenuation), the map's. */
 SkvReading skv_c6_get_chan_compens(const uint32_t *dump, size_t dump_len, const uint8_t *map, size_t map_len, uint8_t unit,
-                                   uint8_t channel, uint8_t atten);
+                                   uint8_t channel, uint8_t attenuation);
 
-/* The reference voltage of an attenuation. Refusal 7. */
-SkvVoltage skv_c6_cal_mv(uint8_t minor, uint8_t unit, uint8_t atten);
+/* The reference voltage of an attenuation.
+   Refusal 7 (unit or attenuation). */
+SkvVoltage skv_c6_cal_mv(uint8_t minor_block_version, uint8_t unit, uint8_t attenuation);
 
 /* Curves. */
 
-/* Corrects a line answer by the curve of its chip, unit and attenuation; minor is looked at for a C6 alone. Refusals 7, 14, 13; a number
-   that names no chip is 14. */
-SkvVoltage skv_correct(uint8_t chip, uint8_t minor, uint8_t unit, uint8_t atten, SkvMillivolt line);
+/* Corrects a line answer by the curve of its chip, unit and attenuation; the minor block version is looked at for a C6 alone.
+   Refusals 7 (unit or attenuation), 14 (curve; so too for a number that names no chip), 13 (line answer). */
+SkvVoltage skv_correct(uint8_t chip, uint8_t minor_block_version, uint8_t unit, uint8_t attenuation, SkvMillivolt line_answer);
 
 /* Logs. */
 
-/* The log's first sample, 4 bytes long, or its end. Refusal 16. */
+/* The log's first sample, 4 bytes long, or its end.
+   Refusal 16 (log). */
 SkvNext skv_next_sample(const uint8_t *log, size_t log_len);
 
-/* A sample's millivolts, by the ESP32 map and the dump of its board. Refusals 15, those of decoding, 8. */
-SkvVoltage skv_sample(SkvSample sample, const uint32_t *field, size_t field_len, const uint32_t *reference, size_t reference_len,
-                      const uint8_t *map, size_t map_len);
+/* A sample's millivolts, by the ESP32 map and the dump of its board.
+   Refusals 15 (board), those of skv_decode, 8 (count). */
+SkvVoltage skv_sample(SkvSample sample, const uint32_t *field_dump, size_t field_dump_len, const uint32_t *reference_dump,
+                      size_t reference_dump_len, const uint8_t *map, size_t map_len);
 
 #ifdef __cplusplus
 }

@@ -4,10 +4,10 @@
 
 #include <stdio.h>
 
-enum { WORDS = 88, WORD = 4, MAP_BYTES = 48, SAMPLE_BYTES = 4 };
+enum { WORD = 4 };
 
 typedef struct Dump {
-    uint32_t words[WORDS];
+    uint32_t words[SKV_DUMP_WORDS];
     size_t len;
 } Dump;
 
@@ -24,10 +24,10 @@ static size_t load(const char *name, uint8_t *bytes, size_t size)
 /* A dump file has 88 words, low byte first; one of another length is a dump without words, which each call refuses. */
 static Dump load_dump(const char *name)
 {
-    uint8_t bytes[WORDS * WORD + 1];
+    uint8_t bytes[SKV_DUMP_WORDS * WORD + 1];
     Dump dump = {{0}, 0};
-    if (load(name, bytes, sizeof bytes) == WORDS * WORD)
-        dump.len = WORDS;
+    if (load(name, bytes, sizeof bytes) == SKV_DUMP_WORDS * WORD)
+        dump.len = SKV_DUMP_WORDS;
     for (size_t k = 0; k < dump.len * WORD; k++)
         dump.words[k / WORD] |= (uint32_t)bytes[k] << (8 * (k % WORD));
     return dump;
@@ -64,7 +64,7 @@ static void print_log(const char *name, const Dump *field, const Dump *reference
 {
     FILE *log = fopen(name, "rb");
     for (unsigned long number = 0; log; number++) {
-        uint8_t bytes[SAMPLE_BYTES];
+        uint8_t bytes[SKV_SAMPLE_BYTES];
         const SkvNext next = skv_next_sample(bytes, fread(bytes, 1, sizeof bytes, log));
         const SkvSample sample = next.sample;
         if (next.whole == 0) {
@@ -80,7 +80,7 @@ static void print_log(const char *name, const Dump *field, const Dump *reference
 
 int main(void)
 {
-    uint8_t map[MAP_BYTES + 1];
+    uint8_t map[SKV_ESP32_MAP_BYTES + 1];
     const Dump field = load_dump("field.bin"), reference = load_dump("reference.bin");
     const size_t map_len = load("map.bin", map, sizeof map);
     print_record('F', &field, map, map_len, 0, 3);

@@ -2,10 +2,12 @@
 #ifndef BOARDS_H
 #define BOARDS_H
 
+#include "suongkivat.h"
+
 #include <stdint.h>
 #include <string.h>
 
-enum { WORDS = 88, ESP32_MAP = 48, S2_MAP = 16, C6_MAP = 120 };
+enum { WORDS = SKV_DUMP_WORDS, ESP32_MAP = SKV_ESP32_MAP_BYTES, S2_MAP = SKV_S2_MAP_BYTES, C6_MAP = SKV_C6_MAP_BYTES };
 
 /* Writes a value into the bits of a block. */
 static inline void put_bits(uint32_t *dump, int block, int start, int count, uint32_t value)

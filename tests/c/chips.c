@@ -48,8 +48,8 @@ void s2(void)
     put_bits(dump, 4, 8, 8, 0x03);
     IS(skv_s2_version(dump, WORDS, map, S2_MAP), 0, version, 1);
     IS(skv_s2_flash_encryption(dump, WORDS, map, S2_MAP), 0, on, 0);
-    IS(skv_s2_init_code(dump, WORDS, map, S2_MAP, 0, 3), SKV_VERSION, code, 0);
-    IS(skv_s2_cal_code(dump, WORDS, map, S2_MAP, 0, 3), SKV_VERSION, code, 0);
+    IS(skv_s2_init_code(dump, WORDS, map, S2_MAP, 0, 3), SKV_NO_CODE, code, 0);
+    IS(skv_s2_cal_code(dump, WORDS, map, S2_MAP, 0, 3), SKV_NO_CODE, code, 0);
     IS(skv_s2_init_code(dump, WORDS, map, 0, 2, 3), SKV_UNIT, code, 0);
     IS(skv_s2_cal_code(dump, WORDS, map, 0, 0, 3), SKV_MAP, code, 0);
     IS(skv_s2_version(dump, 0, map, 0), SKV_DUMP, version, 0);
@@ -78,8 +78,8 @@ void c6(void)
     IS(skv_c6_get_chan_compens(dump, WORDS, map, C6_MAP, 0, 6, 0), 0, value, -28);
     IS(skv_c6_get_chan_compens(dump, WORDS, map, C6_MAP, 0, 255, 3), 0, value, -7);
     IS(skv_c6_get_chan_compens(dump, WORDS, map, C6_MAP, 0, 5, 3), 0, value, 0);
-    IS(skv_c6_init_code(dump, WORDS, map, C6_MAP, 0, 0, 1), SKV_VERSION, code, 0);
-    IS(skv_c6_cal_code(dump, WORDS, map, C6_MAP, 0, 0, 1), SKV_VERSION, code, 0);
+    IS(skv_c6_init_code(dump, WORDS, map, C6_MAP, 0, 0, 1), SKV_NO_CODE, code, 0);
+    IS(skv_c6_cal_code(dump, WORDS, map, C6_MAP, 0, 0, 1), SKV_NO_CODE, code, 0);
     IS(skv_c6_init_code(dump, 0, map, 0, 0, 2, 1), SKV_DUMP, code, 0);
     IS(skv_c6_cal_code(dump, WORDS, map, 0, 0, 2, 1), SKV_UNIT, code, 0);
     IS(skv_c6_get_chan_compens(dump, WORDS, map, 0, 1, 0, 4), SKV_UNIT, value, 0);

@@ -78,17 +78,18 @@ static void converting(void)
 
 static void filling(void)
 {
-    static uint16_t table[4096], before[4096];
+    static uint16_t table[SKV_COUNTS], before[SKV_COUNTS];
     SkvLineRecord r = with_vref(0).record;
     const SkvCount none = {0}, late = {2000}, end = {4096}, past = {4097};
     CHECK(skv_fill(r, none, table, 2000).refusal.number == 0);
     CHECK(skv_fill(r, late, table + 2000, 2096).refusal.number == 0);
     for (int i = 0; i < 5; i++)
         CHECK(table[counts[i].raw] == marked[i]);
-    for (int raw = 0; raw < 4096; raw++) {
+    for (int raw = 0; raw < SKV_COUNTS; raw++) {
         const SkvCount count = {(uint16_t)raw};
         CHECK(table[raw] == skv_convert(r, count).voltage.mv);
     }
+    CHECK(skv_fill(r, none, table, SKV_COUNTS).refusal.number == 0);
     memcpy(before, table, sizeof table);
     CHECK(skv_fill(r, late, table, 2097).refusal.number == SKV_STRETCH);
     CHECK(skv_fill(r, end, table, 0).refusal.number == 0);
@@ -121,12 +122,12 @@ void logs(void)
     uint8_t map[ESP32_MAP];
     esp32_map(map);
     for (int i = 0; i < 3; i++) {
-        const SkvNext next = skv_next_sample(log + 4 * i, (size_t)(12 - 4 * i));
+        const SkvNext next = skv_next_sample(log + SKV_SAMPLE_BYTES * i, (size_t)(12 - SKV_SAMPLE_BYTES * i));
         CHECK(next.refusal.number == 0 && next.whole == 1 && next.sample.board == log[4 * i + 2] && next.sample.last == 3);
         IS(skv_sample(next.sample, dump, WORDS, dump, WORDS, map, ESP32_MAP), numbers[i], voltage.mv, answers[i]);
     }
     CHECK(nothing(skv_next_sample(log, 0), 0));
-    CHECK(nothing(skv_next_sample(log, 3), SKV_LOG));
+    CHECK(nothing(skv_next_sample(log, SKV_SAMPLE_BYTES - 1), SKV_LOG));
     IS(skv_sample(board, dump, 0, dump, 0, map, 0), SKV_BOARD, voltage.mv, 0);
     IS(skv_sample(last, dump, 0, dump, 0, map, 0), SKV_BOARD, voltage.mv, 0);
     IS(skv_sample(unmapped, dump, WORDS, dump, 0, map, 0), SKV_DUMP, voltage.mv, 0);

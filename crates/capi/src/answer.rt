@@ -1,9 +1,10 @@
 // What C is handed and given by value, where more than one part of the library has it.
+use line::convert::Converted;
 use terms::refusal;
 use terms::refusal::Outcome;
 use terms::unit::Millivolt;
 ghost use mathlib.Core.Path.{_≡_};
-ghost use Rattle.capi.specs.Answer.{refusalC, outcomeC, voltageC, codeC, readingC, yesOrNo};
+ghost use Rattle.capi.specs.Answer.{refusalC, outcomeC, voltageC, codeC, readingC, convertedC, yesOrNo};
 
 // Why a call was turned down; number 0 where it wasn't. It stands in every answer that may be a refusal, and is made in one place.
 #[repr(C)]
@@ -48,14 +49,14 @@ pub struct SkvReading {
 }
 
 // The refusal with that number.
-pub(crate) fn refusal_c(number: u8) -> SkvRefusal
+pub fn refusal_c(number: u8) -> SkvRefusal
     ensures { λ r. ⌜ r ≡ refusalC number ⌝ }
 {
     SkvRefusal { number }
 }
 
 // What C is given of an outcome.
-pub(crate) fn outcome_c(outcome: Outcome) -> SkvOutcome
+pub fn outcome_c(outcome: Outcome) -> SkvOutcome
     ensures { λ r. ⌜ r ≡ outcomeC outcome ⌝ }
 {
     match outcome {
@@ -69,7 +70,7 @@ pub(crate) fn outcome_c(outcome: Outcome) -> SkvOutcome
 }
 
 // An answer by its number and its value, which is 0 beside a refusal.
-pub(crate) fn voltage_c(number: u8, voltage: Millivolt) -> SkvVoltage
+pub fn voltage_c(number: u8, voltage: Millivolt) -> SkvVoltage
     ensures { λ r. ⌜ r ≡ voltageC number voltage ⌝ }
 {
     SkvVoltage {
@@ -78,7 +79,7 @@ pub(crate) fn voltage_c(number: u8, voltage: Millivolt) -> SkvVoltage
     }
 }
 
-pub(crate) fn code_c(number: u8, code: u16) -> SkvCode
+pub fn code_c(number: u8, code: u16) -> SkvCode
     ensures { λ r. ⌜ r ≡ codeC number code ⌝ }
 {
     SkvCode {
@@ -87,7 +88,7 @@ pub(crate) fn code_c(number: u8, code: u16) -> SkvCode
     }
 }
 
-pub(crate) fn reading_c(number: u8, value: i32) -> SkvReading
+pub fn reading_c(number: u8, value: i32) -> SkvReading
     ensures { λ r. ⌜ r ≡ readingC number value ⌝ }
 {
     SkvReading {
@@ -96,8 +97,18 @@ pub(crate) fn reading_c(number: u8, value: i32) -> SkvReading
     }
 }
 
+// What C is given of a conversion.
+pub fn converted_c(converted: Converted) -> SkvVoltage
+    ensures { λ r. ⌜ r ≡ convertedC converted ⌝ }
+{
+    match converted {
+        Converted::Voltage(voltage) => voltage_c(refusal::NONE, voltage),
+        Converted::Refused(why) => voltage_c(why.number, Millivolt(0)),
+    }
+}
+
 // 1 for yes, 0 for no.
-pub(crate) fn yes_or_no(answer: bool) -> u8
+pub fn yes_or_no(answer: bool) -> u8
     ensures { λ r. ⌜ r ≡ yesOrNo answer ⌝ }
 {
     if answer { 1 } else { 0 }

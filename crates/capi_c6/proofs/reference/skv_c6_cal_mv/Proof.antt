@@ -1,0 +1,17 @@
+-- `capi_c6::reference::skv_c6_cal_mv` meets its contract: it gives the answer of the library's own call to C. Assumes nothing.
+use mathlib.Core.Path.{_∙_}
+use borrow.Author.Needs.{needs}
+use Rattle.capi_c6.proofs.reference.skv_c6_cal_mv.Statement.{statement}
+use Rattle.capi_c6.proofs.reference.skv_c6_cal_mv.Tie as tie
+
+rtc-calib-cal-mv-requires : tie.Need-rtc-calib-cal-mv-requires
+rtc-calib-cal-mv-requires c κs = search needs
+
+c6-cal-mv-c-requires : tie.Need-c6-cal-mv-c-requires
+c6-cal-mv-c-requires c κs = search needs
+
+returns : tie.Need-returns
+returns c = c .c6-cal-mv-c .ensures ∙ rw (c .before .rtc-calib-cal-mv .ensures)
+
+pub skv-c6-cal-mv-spec : {M : Type 1} → statement M
+skv-c6-cal-mv-spec = tie.close (tie.spec rtc-calib-cal-mv-requires c6-cal-mv-c-requires returns)

@@ -1,0 +1,2 @@
+// Curve correction for C.
+pub mod correct;

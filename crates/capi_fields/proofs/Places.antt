@@ -1,0 +1,19 @@
+-- Laws of the place that C is told of a view: which case it is. Assumes nothing.
+use mathlib.Core.Path.{_≡_, sym, _∙_, ap}
+use Prim.Native.Nat.{ℕ, _*_}
+use Rattle.terms.proofs.Refusals.{byNumber-good, byNumber-refused}
+use Rattle.efuse.specs.Field.{eight}
+use Rattle.efuse.specs.View.{Lent, viewRefusal}
+use Rattle.capi_fields.specs.View.{placeC, viewC}
+
+module _ (field reference : Lent) (board block : ℕ) where
+  abbrev refusal : ℕ
+  refusal = viewRefusal field reference board block
+
+  pub place-good : refusal ≡ 0 → placeC 0 board (8 * block) 8 ≡ viewC eight field reference board block
+  unfolding viewC
+  place-good e = sym (byNumber-good _ _ _ e)
+
+  pub place-refused : {n : ℕ} → n ≡ refusal → (n ≡ 0 → ⊥) → placeC n 0 0 0 ≡ viewC eight field reference board block
+  unfolding viewC
+  place-refused e h = ap (λ (m : ℕ). placeC m 0 0 0) e ∙ sym (byNumber-refused _ _ _ (λ z. h (e ∙ z)))

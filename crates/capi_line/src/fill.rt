@@ -1,0 +1,24 @@
+// Filling a table.
+use crate::record::SkvLineRecord;
+use crate::record::record_from;
+use capi::answer::SkvCount;
+use capi::answer::SkvOutcome;
+use capi::answer::outcome_c;
+use line::fill;
+use terms::unit::Count;
+ghost use mathlib.Core.Path.{_≡_};
+ghost use lib.ListN.{length};
+ghost use Rattle.terms.specs.Refuse.{outcomeOf};
+ghost use Rattle.line.specs.Fill.{fillRefusal, filled};
+ghost use Rattle.capi.specs.Answer.{outcomeC};
+ghost use Rattle.capi_line.specs.Record.{recordFrom};
+
+// Writes the answers of the counts from a first one on, as many as the lent list has numbers. A refusal, 10, 11, leaves the list as it
+// was.
+#[no_mangle]
+pub extern "C" fn skv_fill(cal: SkvLineRecord, first: SkvCount, out: &mut [u16]) -> SkvOutcome
+    ensures answer { λ r. ⌜ r ≡ outcomeC (outcomeOf (fillRefusal (recordFrom cal) (first .raw) (length (now (out .entry))))) ⌝ }
+    ensures lent { λ r. ⌜ now (out .exit) ≡ filled (recordFrom cal) (first .raw) (now (out .entry)) ⌝ }
+{
+    outcome_c(fill::fill(record_from(cal), Count(first.raw), out))
+}

@@ -1,0 +1,17 @@
+-- `capi_s2::reading::skv_s2_skipped_vlow` meets its contract: it gives the answer of the library's own call to C. Assumes nothing.
+use mathlib.Core.Path.{_∙_}
+use borrow.Author.Needs.{needs}
+use Rattle.capi_s2.proofs.reading.skv_s2_skipped_vlow.Statement.{statement}
+use Rattle.capi_s2.proofs.reading.skv_s2_skipped_vlow.Tie as tie
+
+rtc-calib-reading-skipped-requires : tie.Need-rtc-calib-reading-skipped-requires
+rtc-calib-reading-skipped-requires c κs = search needs
+
+s2-reading-c-requires : tie.Need-s2-reading-c-requires
+s2-reading-c-requires c κs = search needs
+
+returns : tie.Need-returns
+returns c = c .s2-reading-c .ensures ∙ rw (c .before .rtc-calib-reading-skipped .ensures)
+
+pub skv-s2-skipped-vlow-spec : {M : Type 1} → statement M
+skv-s2-skipped-vlow-spec = tie.close (tie.spec rtc-calib-reading-skipped-requires s2-reading-c-requires returns)

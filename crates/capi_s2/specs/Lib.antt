@@ -1,0 +1,5 @@
+pub mod Code
+pub mod Encryption
+pub mod Reading
+pub mod Reference
+pub mod Version
