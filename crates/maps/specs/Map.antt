@@ -9,9 +9,9 @@ use Rattle.terms.specs.declared.chip.MapChip.{MapChip}
 use Rattle.terms.specs.declared.chip.MapChip.the-variants.{Esp32, S2, C6}
 use Rattle.terms.specs.Refuse.{refuse, orElse, firstOf}
 use Rattle.efuse.specs.declared.field.EfuseField.{EfuseField}
+use Rattle.efuse.specs.Field.{placeRefusal}
 use Rattle.maps.specs.declared.map.Ids.{Ids}
 use Rattle.maps.specs.declared.map.BitCounts.{BitCounts}
-use Rattle.efuse.specs.Field.{placeRefusal}
 
 -- "records of 8 bytes, no header": byte i of record k. What is past the map's end counts as zero
 abbrev pub recordByte : List ℕ → ℕ → ℕ → ℕ
