@@ -6,20 +6,13 @@ use mathlib.Core.List.{flatten}
 use Prim.Native.Nat.{ℕ, zero, suc, _+_, _*_, _/_, _%_, _^_, _≤_, _<_}
 use native.Mathlib.Nat.{div-add-mod, mod-lt, mul-add, mul-one, one-le-pow}
 use native.Mathlib.Omega.{arith}
-use lib.IntN.{ℤ, pos, negℤ}
 use lib.ListN.{getD}
 use borrow.Author.Tests.{lt-ltb, le-ltb}
 use Rattle.terms.proofs.Check.{Check, by, plain, also, at-most, rule}
 use Rattle.terms.proofs.Order.{either}
 use Rattle.curve.specs.Decimal.{Decimal, plus, minus, nearest, doublings, scaled, magnitude, coefficient}
+use Rattle.curve.specs.FromDouble.{Nearest, digits, tens, power, doubled, signed, FromDouble}
 use Rattle.curve.specs.Flat.{curves, decimals}
-
--- q is within a half of n / d, and even where it is a half away
-pub record Nearest (n d q : ℕ) : Type 0 where
-  pub not-low : 2 * n ≤ 2 * (d * q) + d
-  pub not-high : 2 * (d * q) ≤ 2 * n + d
-  pub even-low : 2 * n ≡ 2 * (d * q) + d → q % 2 ≡ 0
-  pub even-high : 2 * (d * q) ≡ 2 * n + d → q % 2 ≡ 0
 
 -- by being less than a half away, or even
 module _ (n d q : ℕ) where
@@ -65,26 +58,6 @@ module _ (n d : ℕ) (some : 0 < d) where
       (λ more. rw (lt-ltb d (2 * r) more) (strictly n d (q + 1) (omega (arith, whole, next)) (omega (arith, whole, next))))))
       (λ few. rw (lt-ltb (2 * r) d few) (strictly n d q (omega (arith, whole)) (omega (arith, whole))))
 
--- the size of a decimal is digits / tens, and its double's is doubled / 2 ^ power
-abbrev pub digits : Decimal → ℕ
-digits (plus n places) = n
-digits (minus n places) = n
-
-abbrev pub tens : Decimal → ℕ
-tens (plus n places) = 10 ^ places
-tens (minus n places) = 10 ^ places
-
-abbrev pub power : Decimal → ℕ
-power x = doublings 128 (digits x) (tens x)
-
-abbrev pub doubled : Decimal → ℕ
-doubled x = nearest (digits x * 2 ^ power x) (tens x)
-
--- a size with the decimal's sign
-abbrev pub signed : Decimal → ℕ → ℤ
-signed (plus n places) size = pos size
-signed (minus n places) size = negℤ (pos size)
-
 abbrev has53 : (n q : ℕ) → Check (0 < n → (2 ^ 52 ≤ q) × (q < 2 ^ 53))
 has53 zero q = plain (λ h. absurd (omega arith))
 has53 (suc n) q = by (λ p h. p) (also (at-most (2 ^ 52) q) (at-most (suc q) (2 ^ 53)))
@@ -95,12 +68,6 @@ decimal i = getD decimals i (plus 0 0)
 pub all-53 : (i : ℕ) → i < 109 → 0 < digits (decimal i) → (2 ^ 52 ≤ doubled (decimal i)) × (doubled (decimal i) < 2 ^ 53)
 unfolding decimals curves flatten nearest doublings
 all-53 = rule (λ i. has53 (digits (decimal i)) (doubled (decimal i))) 109 tt
-
--- a coefficient and its decimal: the double has 53 bits, is the nearest to the decimal, even at a tie, and is cut
-pub record FromDouble (x : Decimal) : Type 0 where
-  pub bits : (2 ^ 52 ≤ doubled x) × (doubled x < 2 ^ 53)
-  pub double : Nearest (digits x * 2 ^ power x) (tens x) (doubled x)
-  pub cut : coefficient x ≡ signed x (doubled x * 2 ^ 52 / 2 ^ power x)
 
 tens-some : (x : Decimal) → 0 < tens x
 tens-some (plus n places) = one-le-pow places 10 (omega arith)
