@@ -1,4 +1,3 @@
-pub mod Decimals
 pub mod Parts
 pub mod Steps
 pub mod Unique

@@ -1,6 +1,4 @@
-pub mod Fault
 pub mod Lines
 pub mod Part
 pub mod Private
 pub mod Step
-pub mod Text
