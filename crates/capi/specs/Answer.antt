@@ -3,7 +3,7 @@ use mathlib.Core.Bool.{Bool, cond}
 use Prim.Native.Nat.{ℕ}
 use lib.IntN.{ℤ}
 use Rattle.terms.specs.declared.refusal.Outcome.{Outcome}
-use Rattle.terms.specs.declared.unit.Millivolt.{Millivolt}
+use Rattle.terms.specs.declared.quantity.Millivolt.{Millivolt}
 use Rattle.terms.specs.Refuse.{numberOf}
 use Rattle.line.specs.declared.convert.Converted.{Converted}
 use Rattle.line.specs.Convert.{numberOf as convertNumber, valueOf as convertValue}

@@ -1,8 +1,8 @@
 // What C is handed and given by value, where more than one part of the library has it.
 use line::convert::Converted;
+use terms::quantity::Millivolt;
 use terms::refusal;
 use terms::refusal::Outcome;
-use terms::unit::Millivolt;
 ghost use mathlib.Core.Path.{_≡_};
 ghost use Rattle.capi.specs.Answer.{refusalC, outcomeC, voltageC, codeC, readingC, convertedC, yesOrNo};
 

@@ -4,7 +4,7 @@ use Prim.Native.Nat.{ℕ}
 use lib.ListN.{getD}
 use Rattle.terms.specs.declared.chip.Chip.{Chip}
 use Rattle.terms.specs.declared.chip.Chip.the-variants.{Esp32, S2, C3, C5, C6, C61, H2, P4, S3}
-use Rattle.terms.specs.declared.unit.Millivolt.{Millivolt}
+use Rattle.terms.specs.declared.quantity.Millivolt.{Millivolt}
 use Rattle.curve.specs.declared.correct.Corrected.{Corrected}
 use Rattle.curve.specs.Correct.{numberOf, valueOf}
 use Rattle.capi.specs.declared.answer.SkvMillivolt.{SkvMillivolt}

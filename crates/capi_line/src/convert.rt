@@ -5,7 +5,7 @@ use capi::answer::SkvCount;
 use capi::answer::SkvVoltage;
 use capi::answer::converted_c;
 use line::convert;
-use terms::unit::Count;
+use terms::quantity::Count;
 ghost use mathlib.Core.Path.{_≡_};
 ghost use Rattle.line.specs.Convert.{convertOf};
 ghost use Rattle.capi_line.specs.Record.{recordFrom};

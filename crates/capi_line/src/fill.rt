@@ -5,7 +5,7 @@ use capi::answer::SkvCount;
 use capi::answer::SkvOutcome;
 use capi::answer::outcome_c;
 use line::fill;
-use terms::unit::Count;
+use terms::quantity::Count;
 ghost use mathlib.Core.Path.{_≡_};
 ghost use lib.ListN.{length};
 ghost use Rattle.terms.specs.Refuse.{outcomeOf};

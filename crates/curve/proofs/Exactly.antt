@@ -4,7 +4,7 @@ use mathlib.Core.Bool.{false}
 use Prim.Native.Nat.{ℕ, _≤_}
 use borrow.Author.Tests.{lt-ltb, le-ltb}
 use Rattle.terms.specs.declared.chip.Chip.{Chip}
-use Rattle.terms.specs.declared.unit.Millivolt.{Millivolt}
+use Rattle.terms.specs.declared.quantity.Millivolt.{Millivolt}
 use Rattle.terms.specs.Exactly.{Exactly}
 use Rattle.terms.specs.When.{UnitWhen, bad-unit, good-unit}
 use Rattle.terms.proofs.Exactly.{Some, exactly, case, unit-exactly}

@@ -2,7 +2,7 @@
 use mathlib.Core.Path.{refl}
 use Prim.Native.Nat.{ℕ}
 use Rattle.terms.specs.declared.chip.Chip.{Chip}
-use Rattle.terms.specs.declared.unit.Millivolt.{Millivolt}
+use Rattle.terms.specs.declared.quantity.Millivolt.{Millivolt}
 use Rattle.terms.specs.Says.{Says}
 use Rattle.terms.proofs.Says.{Paper, says}
 use Rattle.curve.specs.declared.correct.Corrected.the-variants.{Answer, Refused}

@@ -10,7 +10,7 @@ use lib.ListN.{length, getD}
 use Rattle.terms.specs.declared.chip.Chip.{Chip}
 use Rattle.terms.specs.declared.chip.Chip.the-variants.{Esp32, S2, C3, C5, C6, C61, H2, P4, S3}
 use Rattle.terms.proofs.Order.{either}
-use Rattle.esp32c6.specs.Version.{versionOf}
+use Rattle.terms.specs.C6Version.{versionOf}
 use Rattle.curve.specs.Curves.{Table, c6Coeffs1, c6Coeffs1V2}
 use Rattle.curve.specs.Table.{unit0Table, unit1Table, tableOf, missing}
 use Rattle.curve.specs.Flat.{tables, numbered}

@@ -8,7 +8,7 @@ use lib.IntN.{ℤ, pos, natAbs, _+ℤ_, _-ℤ_, _*ℤ_}
 use lib.ListN.{length}
 use lib.Signed.{quotZ}
 use Rattle.terms.specs.declared.chip.Chip.{Chip}
-use Rattle.terms.specs.declared.unit.Millivolt.{Millivolt}
+use Rattle.terms.specs.declared.quantity.Millivolt.{Millivolt}
 use Rattle.terms.specs.Refuse.{refuse, orElse, answered, unitRefusal}
 use Rattle.curve.specs.declared.correct.Corrected.{Corrected}
 use Rattle.curve.specs.declared.correct.Corrected.the-variants.{Answer, Refused}

@@ -7,7 +7,7 @@ use Prim.Native.Nat.{ℕ}
 use lib.Dec.{eqb}
 use Rattle.terms.specs.declared.chip.Chip.{Chip}
 use Rattle.terms.specs.declared.chip.Chip.the-variants.{Esp32, S2, C3, C5, C6, C61, H2, P4, S3}
-use Rattle.esp32c6.specs.Version.{versionOf}
+use Rattle.terms.specs.C6Version.{versionOf}
 use Rattle.curve.specs.Decimal.{Decimal}
 use Rattle.curve.specs.Curves.{Table, curveAt}
 use Rattle.curve.specs.Curves.{c3Coeffs1, c5Coeffs1, c6Coeffs1, c61Coeffs1, c6Coeffs1V2, h2Coeffs1, p4Coeffs1, p4Coeffs2, s3Coeffs1, s3Coeffs2}

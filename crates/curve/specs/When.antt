@@ -4,7 +4,7 @@ use mathlib.Core.Path.{_≡_}
 use mathlib.Core.Bool.{true, false}
 use Prim.Native.Nat.{ℕ, _≤_, _<_}
 use Rattle.terms.specs.declared.chip.Chip.{Chip}
-use Rattle.terms.specs.declared.unit.Millivolt.{Millivolt}
+use Rattle.terms.specs.declared.quantity.Millivolt.{Millivolt}
 use Rattle.terms.specs.When.{UnitWhen}
 use Rattle.curve.specs.Table.{missing, tableOf}
 

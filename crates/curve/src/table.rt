@@ -1,6 +1,6 @@
 // Which of the ten tables a chip's unit has: `curves_coeffs` of the crate's `AdcHasCurveCal`, calibration/curve.rs. A table goes by its
 // number in the flat table.
-use esp32c6::version::rtc_calib_version;
+use terms::c6_version::rtc_calib_version;
 use terms::chip::Chip;
 ghost use mathlib.Core.Path.{_≡_};
 ghost use Rattle.curve.specs.Flat.{numbered};

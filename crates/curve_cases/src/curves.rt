@@ -5,8 +5,8 @@ use replay::answer;
 use replay::answer::Answer;
 use replay::bytes;
 use terms::chip::Chip;
+use terms::quantity::Millivolt;
 use terms::refusal;
-use terms::unit::Millivolt;
 
 const LINE_ANSWERS: u16 = 4096;
 

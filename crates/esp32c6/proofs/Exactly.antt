@@ -11,7 +11,7 @@ use Rattle.terms.proofs.Order.{equal-or}
 use Rattle.maps.specs.Input.{decodingRefusal}
 use Rattle.maps.specs.When.{DecodingWhen}
 use Rattle.maps.proofs.Exactly.{decoding-exactly}
-use Rattle.esp32c6.specs.Version.{versionOf}
+use Rattle.terms.specs.C6Version.{versionOf}
 use Rattle.esp32c6.specs.Code.{versionRefusal, codeRefusal}
 use Rattle.esp32c6.specs.When.{CodeWhen, before, bad-version, good-version}
 use Rattle.esp32c6.proofs.Codes.{code-decoding, code-version}

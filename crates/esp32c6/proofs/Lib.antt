@@ -5,4 +5,3 @@ pub mod Fields
 pub mod Ranges
 pub mod Says
 pub mod Unique
-pub mod Versions

@@ -11,7 +11,7 @@ use Rattle.terms.proofs.Whole.{up, dn}
 use Rattle.maps.specs.Input.{decodingRefusal}
 use Rattle.maps.specs.Value.{valueById}
 use Rattle.maps.proofs.Inputs.{decoding-good}
-use Rattle.esp32c6.specs.Version.{versionOf}
+use Rattle.terms.specs.C6Version.{versionOf}
 use Rattle.esp32c6.specs.Code.{codeRefusal, valueOf, initCodeOf, offsetOf, calCode, calCodeOf}
 use Rattle.esp32c6.specs.Channel.{chanCompensOf, valueOf as compensValue}
 use Rattle.esp32c6.proofs.Channels.{compens-range}

@@ -18,7 +18,7 @@ use Rattle.esp32c6.specs.Reference as reference
 use Rattle.esp32c6.specs.Channel.{compensOf, chanCompensOf}
 use Rattle.esp32c6.specs.Code.{codeRefusal, initCodeOf, calCode, calCodeOf}
 use Rattle.esp32c6.specs.Reference.{millivoltsOf, calMvOf}
-use Rattle.esp32c6.specs.Version.{versionOf}
+use Rattle.terms.specs.C6Version.{versionOf}
 
 code-paper : Paper code.numberOf code.valueOf 0 Code No-code
 code-paper =

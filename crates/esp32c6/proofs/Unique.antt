@@ -2,14 +2,10 @@
 -- Assumes nothing.
 use mathlib.Core.Path.{sym, _∙_}
 use Rattle.terms.specs.OneAnswer.{OneAnswer}
-use Rattle.esp32c6.proofs.version.rtc_calib_version.Reads as rtc-calib-version
 use Rattle.esp32c6.proofs.code.rtc_calib_init_code.Reads as rtc-calib-init-code
 use Rattle.esp32c6.proofs.code.rtc_calib_cal_code.Reads as rtc-calib-cal-code
 use Rattle.esp32c6.proofs.channel.rtc_calib_get_chan_compens.Reads as rtc-calib-get-chan-compens
 use Rattle.esp32c6.proofs.reference.rtc_calib_cal_mv.Reads as rtc-calib-cal-mv
-
-pub rtc-calib-version-one : OneAnswer (λ κs z e. z) rtc-calib-version.Post
-rtc-calib-version-one κs a z z′ e e′ p q = p ∙ sym q
 
 pub rtc-calib-init-code-one : OneAnswer (λ κs z e. z) rtc-calib-init-code.Post
 rtc-calib-init-code-one κs a z z′ e e′ p q = p ∙ sym q

@@ -13,7 +13,7 @@ use Rattle.maps.specs.Input.{decodingRefusal}
 use Rattle.maps.specs.Value.{valueById}
 use Rattle.esp32c6.specs.declared.code.Code.{Code}
 use Rattle.esp32c6.specs.declared.code.Code.the-variants.{Value, Refused}
-use Rattle.esp32c6.specs.Version.{versionOf}
+use Rattle.terms.specs.C6Version.{versionOf}
 
 -- 12: C6 version not 1 or 2
 unfoldable pub versionRefusal : ℕ → ℕ

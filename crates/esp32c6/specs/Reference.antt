@@ -5,11 +5,11 @@ use mathlib.Core.List.{[], _∷_}
 use Prim.Native.Nat.{ℕ}
 use lib.ListN.{getD}
 use lib.Dec.{eqb}
-use Rattle.terms.specs.declared.unit.Millivolt.{Millivolt}
+use Rattle.terms.specs.declared.quantity.Millivolt.{Millivolt}
 use Rattle.terms.specs.Refuse.{unitRefusal, answered}
 use Rattle.esp32c6.specs.declared.reference.CalMv.{CalMv}
 use Rattle.esp32c6.specs.declared.reference.CalMv.the-variants.{Value, Refused}
-use Rattle.esp32c6.specs.Version.{versionOf}
+use Rattle.terms.specs.C6Version.{versionOf}
 
 -- document 01's number and value of a reference voltage, zeros beside a refusal
 abbrev pub numberOf : CalMv → ℕ

@@ -7,7 +7,7 @@ use mathlib.Core.List.{List}
 use Prim.Native.Nat.{ℕ}
 use Rattle.terms.specs.declared.chip.MapChip.the-variants.{C6}
 use Rattle.maps.specs.When.{DecodingWhen}
-use Rattle.esp32c6.specs.Version.{versionOf}
+use Rattle.terms.specs.C6Version.{versionOf}
 
 -- 1, 7 and those of the map, then 12
 -- 12: "C6 version not 1 or 2"

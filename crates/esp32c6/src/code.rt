@@ -2,9 +2,9 @@
 use crate::field::ADC1_CAL_VOL_ATTEN0;
 use crate::field::ADC1_INIT_CODE_ATTEN0;
 use crate::field::get_signed_val;
-use crate::version::rtc_calib_version;
 use maps::input::decoding_refusal;
 use maps::value::record_value;
+use terms::c6_version::rtc_calib_version;
 use terms::chip::MapChip;
 use terms::refusal;
 use terms::refusal::Refusal;

@@ -1,9 +1,9 @@
 // The C6's reference voltages, by attenuation.
-use crate::version::rtc_calib_version;
+use terms::c6_version::rtc_calib_version;
+use terms::quantity::Millivolt;
 use terms::refusal;
 use terms::refusal::Refusal;
 use terms::refusal::unit_refusal;
-use terms::unit::Millivolt;
 ghost use mathlib.Core.Path.{_≡_};
 ghost use Prim.Native.Nat.{_≤_};
 ghost use Rattle.esp32c6.specs.Reference.{millivoltsOf, calMvOf};

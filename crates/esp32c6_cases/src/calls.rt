@@ -5,10 +5,10 @@ use esp32c6::code;
 use esp32c6::code::Code;
 use esp32c6::reference;
 use esp32c6::reference::CalMv;
-use esp32c6::version;
 use replay::answer;
 use replay::answer::Answer;
 use replay::bytes;
+use terms::c6_version;
 
 const RECORD_BYTES: usize = 8;
 
@@ -49,7 +49,7 @@ fn call_answer(dump: &[u32], map: &[u8], case: &[u8]) -> Answer {
     let atten = bytes::number8(case, 14);
     let channel = bytes::number8(case, 15);
     match bytes::number8(case, 11) {
-        VERSION => answer::good(version::rtc_calib_version(minor) as i64),
+        VERSION => answer::good(c6_version::rtc_calib_version(minor) as i64),
         INIT_CODE => code_answer(code::rtc_calib_init_code(dump, map, minor, unit, atten)),
         CAL_CODE => code_answer(code::rtc_calib_cal_code(dump, map, minor, unit, atten)),
         CHAN_COMPENS => compens_answer(channel::rtc_calib_get_chan_compens(

@@ -2,7 +2,7 @@
 use mathlib.Core.List.{[], _∷_}
 use Prim.Native.Nat.{ℕ}
 use lib.ListN.{getD}
-use Rattle.terms.specs.declared.unit.Millivolt.{Millivolt}
+use Rattle.terms.specs.declared.quantity.Millivolt.{Millivolt}
 use Rattle.terms.specs.Refuse.{unitRefusal, answered}
 use Rattle.esp32s2.specs.declared.reference.CalMv.{CalMv}
 use Rattle.esp32s2.specs.declared.reference.CalMv.the-variants.{Value, Refused}

@@ -1,8 +1,8 @@
 // The S2's reference voltages, by attenuation.
+use terms::quantity::Millivolt;
 use terms::refusal;
 use terms::refusal::Refusal;
 use terms::refusal::unit_refusal;
-use terms::unit::Millivolt;
 ghost use mathlib.Core.Path.{_≡_};
 ghost use Prim.Native.Nat.{_≤_};
 ghost use Rattle.esp32s2.specs.Reference.{millivoltsOf, calMvOf};

@@ -6,8 +6,8 @@ use line::record::LineRecord;
 use replay::answer;
 use replay::answer::Answer;
 use replay::bytes;
+use terms::quantity::Count;
 use terms::refusal;
-use terms::unit::Count;
 
 // The record at the start of a case.
 pub(crate) fn record_of(case: &[u8]) -> LineRecord {

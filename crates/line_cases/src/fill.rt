@@ -4,9 +4,9 @@ use line::fill;
 use line::record::LineRecord;
 use replay::answer;
 use replay::bytes;
+use terms::quantity::Count;
 use terms::refusal;
 use terms::refusal::Outcome;
-use terms::unit::Count;
 
 const COUNTS: usize = 4096;
 

@@ -17,7 +17,7 @@ use Rattle.line.specs.Convert.{lineVoltage, blendOf, beyondLine, answerAt, conv
 use Rattle.esp32s2.specs.Table.{calibMap, entryAt}
 use Rattle.esp32s2.specs.Tag.{byVersion, tagOf}
 use Rattle.esp32s2.specs.Reading.{termOf, within, readingOf, readingRefusal, calibReadingOf}
-use Rattle.esp32c6.specs.Version.{versionOf}
+use Rattle.terms.specs.C6Version.{versionOf}
 use Rattle.esp32c6.specs.Code.{versionRefusal, codeRefusal, offsetOf, calCode, calCodeOf}
 use Rattle.esp32c6.specs.Channel.{compensOf, chanCompensOf}
 use Rattle.curve.specs.Decimal.{nearest, doublings, scaled, magnitude, coefficient}

@@ -6,10 +6,10 @@ use native.Mathlib.Numerals.{add-one}
 use native.Mathlib.Omega.{arith}
 use borrow.Author.Count.{below-more}
 use Rattle.terms.specs.Exactly.{Exactly}
-use Rattle.terms.specs.Refuse.{firstOf, unitRefusal}
-use Rattle.terms.specs.When.{UnitWhen, bad-unit, good-unit, FirstWhen, fault, no-fault}
+use Rattle.terms.specs.Refuse.{firstOf, unitRefusal, rawRefusal}
+use Rattle.terms.specs.When.{UnitWhen, bad-unit, good-unit, RawWhen, bad-raw, good-raw, FirstWhen, fault, no-fault}
 use Rattle.terms.proofs.Order.{either, zero-or}
-use Rattle.terms.proofs.Refusals.{unit-good, unit-above, Passed, first-start, first-pass, first-stop, first-none}
+use Rattle.terms.proofs.Refusals.{unit-good, unit-above, raw-good, raw-above, Passed, first-start, first-pass, first-stop, first-none}
 
 -- some number's case holds
 abbrev pub Some : (ℕ → Type 0) → Type 0
@@ -42,6 +42,15 @@ module _ (unit atten : ℕ) where
 
   pub unit-exactly : Exactly (unitRefusal unit atten) (UnitWhen unit atten)
   unit-exactly = exactly unit-gives unit-some
+
+-- 8
+module _ (raw : ℕ) where
+  raw-gives : (n : ℕ) → RawWhen raw n → rawRefusal raw ≡ n
+  raw-gives _ (bad-raw h) = raw-above raw h
+  raw-gives _ (good-raw h) = raw-good raw h
+
+  pub raw-exactly : Exactly (rawRefusal raw) (RawWhen raw)
+  raw-exactly = exactly raw-gives (either raw 4095 (λ h. (0, good-raw h)) (λ h. (8, bad-raw h)))
 
 -- a run's first number, where each of the run is given exactly when
 module _ {When : ℕ → ℕ → Type 0} {numbers : ℕ → ℕ} (each : (k : ℕ) → Exactly (numbers k) (When k)) (len : ℕ) where

@@ -1,4 +1,4 @@
--- Document 01, "Numbers given when a call is turned down": when 7 is given, and when a run of records gives a number.
+-- Document 01, "Numbers given when a call is turned down": when 7 and 8 are given, and when a run of records gives a number.
 use mathlib.Core.Path.{_≡_}
 use mathlib.Core.Logic.{_⊎_}
 use Prim.Native.Nat.{ℕ, _≤_, _<_}
@@ -7,6 +7,11 @@ use Prim.Native.Nat.{ℕ, _≤_, _<_}
 pub data UnitWhen (unit atten : ℕ) : ℕ → Type 0 where
   bad-unit : (1 < unit) ⊎ (3 < atten) → UnitWhen unit atten 7
   good-unit : unit ≤ 1 → atten ≤ 3 → UnitWhen unit atten 0
+
+-- 8: "raw above 4095"
+pub data RawWhen (raw : ℕ) : ℕ → Type 0 where
+  bad-raw : 4095 < raw → RawWhen raw 8
+  good-raw : raw ≤ 4095 → RawWhen raw 0
 
 -- "records first to last": the number of the first that has a fault, all before it good; `When k` is when record k gives a number
 pub data FirstWhen (When : ℕ → ℕ → Type 0) (len : ℕ) : ℕ → Type 0 where

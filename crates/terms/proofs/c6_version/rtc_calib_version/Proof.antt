@@ -1,9 +1,9 @@
--- `esp32c6::rtc_calib_version` meets its contract: at each `return` the tests that led there decide the definition's.
+-- `terms::c6_version::rtc_calib_version` meets its contract: at each `return` the tests that led there decide the definition's.
 -- Assumes nothing.
 use borrow.Author.Tests.{eq-eqb, ne-eqb, le-leb, lt-leb}
-use Rattle.esp32c6.specs.Version.{versionOf}
-use Rattle.esp32c6.proofs.version.rtc_calib_version.Statement.{statement}
-use Rattle.esp32c6.proofs.version.rtc_calib_version.Tie as tie
+use Rattle.terms.specs.C6Version.{versionOf}
+use Rattle.terms.proofs.c6_version.rtc_calib_version.Statement.{statement}
+use Rattle.terms.proofs.c6_version.rtc_calib_version.Tie as tie
 
 returns : tie.Need-returns
 unfolding versionOf
