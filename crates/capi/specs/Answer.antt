@@ -4,7 +4,13 @@ use Prim.Native.Nat.{ℕ}
 use lib.IntN.{ℤ}
 use Rattle.terms.specs.declared.refusal.Outcome.{Outcome}
 use Rattle.terms.specs.declared.quantity.Millivolt.{Millivolt}
+use Rattle.terms.specs.declared.code.Code.{Code}
+use Rattle.terms.specs.declared.reading.Reading.{Reading}
+use Rattle.terms.specs.declared.voltage.Voltage.{Voltage}
 use Rattle.terms.specs.Refuse.{numberOf}
+use Rattle.terms.specs.Code as code
+use Rattle.terms.specs.Reading as reading
+use Rattle.terms.specs.Voltage as voltage
 use Rattle.line.specs.declared.convert.Converted.{Converted}
 use Rattle.line.specs.Convert.{numberOf as convertNumber, valueOf as convertValue}
 use Rattle.capi.specs.declared.answer.SkvRefusal.{SkvRefusal}
@@ -19,17 +25,26 @@ refusalC number = record { number = number }
 abbrev pub outcomeC : Outcome → SkvOutcome
 outcomeC outcome = record { refusal = refusalC (numberOf outcome) }
 
-abbrev pub voltageC : ℕ → Millivolt → SkvVoltage
-voltageC number voltage = record { refusal = refusalC number; voltage = record { mv = voltage .0 } }
+abbrev pub withVoltage : ℕ → Millivolt → SkvVoltage
+withVoltage number voltage = record { refusal = refusalC number; voltage = record { mv = voltage .0 } }
 
-abbrev pub codeC : ℕ → ℕ → SkvCode
-codeC number code = record { refusal = refusalC number; code = code }
+abbrev pub withCode : ℕ → ℕ → SkvCode
+withCode number code = record { refusal = refusalC number; code = code }
 
-abbrev pub readingC : ℕ → ℤ → SkvReading
-readingC number value = record { refusal = refusalC number; value = value }
+abbrev pub withReading : ℕ → ℤ → SkvReading
+withReading number value = record { refusal = refusalC number; value = value }
+
+abbrev pub voltageC : Voltage → SkvVoltage
+voltageC answer = withVoltage (voltage.numberOf answer) (voltage.valueOf answer)
+
+abbrev pub codeC : Code → SkvCode
+codeC answer = withCode (code.numberOf answer) (code.valueOf answer)
+
+abbrev pub readingC : Reading → SkvReading
+readingC answer = withReading (reading.numberOf answer) (reading.valueOf answer)
 
 abbrev pub convertedC : Converted → SkvVoltage
-convertedC converted = voltageC (convertNumber converted) (record { 0 = convertValue converted })
+convertedC converted = withVoltage (convertNumber converted) (record { 0 = convertValue converted })
 
 -- a yes or no as a byte
 abbrev pub yesOrNo : Bool → ℕ

@@ -1,10 +1,13 @@
 // What C is handed and given by value, where more than one part of the library has it.
 use line::convert::Converted;
+use terms::code::Code;
 use terms::quantity::Millivolt;
+use terms::reading::Reading;
 use terms::refusal;
 use terms::refusal::Outcome;
+use terms::voltage::Voltage;
 ghost use mathlib.Core.Path.{_≡_};
-ghost use Rattle.capi.specs.Answer.{refusalC, outcomeC, voltageC, codeC, readingC, convertedC, yesOrNo};
+ghost use Rattle.capi.specs.Answer.{refusalC, outcomeC, withVoltage, withCode, withReading, voltageC, codeC, readingC, convertedC, yesOrNo};
 
 // Why a call was turned down; number 0 where it wasn't. It stands in every answer that may be a refusal, and is made in one place.
 #[repr(C)]
@@ -70,8 +73,8 @@ pub fn outcome_c(outcome: Outcome) -> SkvOutcome
 }
 
 // An answer by its number and its value, which is 0 beside a refusal.
-pub fn voltage_c(number: u8, voltage: Millivolt) -> SkvVoltage
-    ensures { λ r. ⌜ r ≡ voltageC number voltage ⌝ }
+fn with_voltage(number: u8, voltage: Millivolt) -> SkvVoltage
+    ensures { λ r. ⌜ r ≡ withVoltage number voltage ⌝ }
 {
     SkvVoltage {
         refusal: refusal_c(number),
@@ -79,8 +82,8 @@ pub fn voltage_c(number: u8, voltage: Millivolt) -> SkvVoltage
     }
 }
 
-pub fn code_c(number: u8, code: u16) -> SkvCode
-    ensures { λ r. ⌜ r ≡ codeC number code ⌝ }
+fn with_code(number: u8, code: u16) -> SkvCode
+    ensures { λ r. ⌜ r ≡ withCode number code ⌝ }
 {
     SkvCode {
         refusal: refusal_c(number),
@@ -88,12 +91,40 @@ pub fn code_c(number: u8, code: u16) -> SkvCode
     }
 }
 
-pub fn reading_c(number: u8, value: i32) -> SkvReading
-    ensures { λ r. ⌜ r ≡ readingC number value ⌝ }
+fn with_reading(number: u8, value: i32) -> SkvReading
+    ensures { λ r. ⌜ r ≡ withReading number value ⌝ }
 {
     SkvReading {
         refusal: refusal_c(number),
         value,
+    }
+}
+
+// What C is given of a voltage, a code or a reading.
+pub fn voltage_c(answer: Voltage) -> SkvVoltage
+    ensures { λ r. ⌜ r ≡ voltageC answer ⌝ }
+{
+    match answer {
+        Voltage::Value(voltage) => with_voltage(refusal::NONE, voltage),
+        Voltage::Refused(why) => with_voltage(why.number, Millivolt(0)),
+    }
+}
+
+pub fn code_c(answer: Code) -> SkvCode
+    ensures { λ r. ⌜ r ≡ codeC answer ⌝ }
+{
+    match answer {
+        Code::Value(code) => with_code(refusal::NONE, code),
+        Code::Refused(why) => with_code(why.number, 0),
+    }
+}
+
+pub fn reading_c(answer: Reading) -> SkvReading
+    ensures { λ r. ⌜ r ≡ readingC answer ⌝ }
+{
+    match answer {
+        Reading::Value(value) => with_reading(refusal::NONE, value),
+        Reading::Refused(why) => with_reading(why.number, 0),
     }
 }
 
@@ -102,8 +133,8 @@ pub fn converted_c(converted: Converted) -> SkvVoltage
     ensures { λ r. ⌜ r ≡ convertedC converted ⌝ }
 {
     match converted {
-        Converted::Voltage(voltage) => voltage_c(refusal::NONE, voltage),
-        Converted::Refused(why) => voltage_c(why.number, Millivolt(0)),
+        Converted::Voltage(voltage) => with_voltage(refusal::NONE, voltage),
+        Converted::Refused(why) => with_voltage(why.number, Millivolt(0)),
     }
 }
 

@@ -2,68 +2,56 @@
 use capi::answer::SkvReading;
 use capi::answer::reading_c;
 use esp32s2::reading;
-use esp32s2::reading::Reading;
 use esp32s2::tag::RtcCalibParam;
-use terms::refusal;
 ghost use mathlib.Core.Path.{_≡_};
 ghost use Rattle.esp32s2.specs.declared.tag.RtcCalibParam.the-variants.{Vlow, Vhigh, Vinit};
 ghost use Rattle.esp32s2.specs.Reading.{calibReadingOf, skippedReadingOf};
-ghost use Rattle.capi_s2.specs.Reading.{s2ReadingC};
-
-// What C is given of a reading.
-fn s2_reading_c(reading: Reading) -> SkvReading
-    ensures { λ r. ⌜ r ≡ s2ReadingC reading ⌝ }
-{
-    match reading {
-        Reading::Value(value) => reading_c(refusal::NONE, value),
-        Reading::Refused(why) => reading_c(why.number, 0),
-    }
-}
+ghost use Rattle.capi.specs.Answer.{readingC};
 
 // The low-voltage reading, of version 1; 0 where it doesn't pair with the version. Refusals 1, 7.
 #[no_mangle]
 pub extern "C" fn skv_s2_reading_vlow(dump: &[u32], version: u8, unit: u8, atten: u8) -> SkvReading
-    ensures { λ r. ⌜ r ≡ s2ReadingC (calibReadingOf (now (dump .entry)) version unit atten Vlow) ⌝ }
+    ensures { λ r. ⌜ r ≡ readingC (calibReadingOf (now (dump .entry)) version unit atten Vlow) ⌝ }
 {
-    s2_reading_c(reading::rtc_calib_reading(dump, version, unit, atten, RtcCalibParam::Vlow))
+    reading_c(reading::rtc_calib_reading(dump, version, unit, atten, RtcCalibParam::Vlow))
 }
 
 // The high-voltage reading; 0 where it doesn't pair with the version. Refusals 1, 7.
 #[no_mangle]
 pub extern "C" fn skv_s2_reading_vhigh(dump: &[u32], version: u8, unit: u8, atten: u8) -> SkvReading
-    ensures { λ r. ⌜ r ≡ s2ReadingC (calibReadingOf (now (dump .entry)) version unit atten Vhigh) ⌝ }
+    ensures { λ r. ⌜ r ≡ readingC (calibReadingOf (now (dump .entry)) version unit atten Vhigh) ⌝ }
 {
-    s2_reading_c(reading::rtc_calib_reading(dump, version, unit, atten, RtcCalibParam::Vhigh))
+    reading_c(reading::rtc_calib_reading(dump, version, unit, atten, RtcCalibParam::Vhigh))
 }
 
 // The initial code, of version 2; 0 where it doesn't pair with the version. Refusals 1, 7.
 #[no_mangle]
 pub extern "C" fn skv_s2_reading_vinit(dump: &[u32], version: u8, unit: u8, atten: u8) -> SkvReading
-    ensures { λ r. ⌜ r ≡ s2ReadingC (calibReadingOf (now (dump .entry)) version unit atten Vinit) ⌝ }
+    ensures { λ r. ⌜ r ≡ readingC (calibReadingOf (now (dump .entry)) version unit atten Vinit) ⌝ }
 {
-    s2_reading_c(reading::rtc_calib_reading(dump, version, unit, atten, RtcCalibParam::Vinit))
+    reading_c(reading::rtc_calib_reading(dump, version, unit, atten, RtcCalibParam::Vinit))
 }
 
 // The same of `skv_s2_reading_vlow` with the eFuse skipped, which takes no dump: the bases alone. Refusal 7.
 #[no_mangle]
 pub extern "C" fn skv_s2_skipped_vlow(version: u8, unit: u8, atten: u8) -> SkvReading
-    ensures { λ r. ⌜ r ≡ s2ReadingC (skippedReadingOf version unit atten Vlow) ⌝ }
+    ensures { λ r. ⌜ r ≡ readingC (skippedReadingOf version unit atten Vlow) ⌝ }
 {
-    s2_reading_c(reading::rtc_calib_reading_skipped(version, unit, atten, RtcCalibParam::Vlow))
+    reading_c(reading::rtc_calib_reading_skipped(version, unit, atten, RtcCalibParam::Vlow))
 }
 
 // The same of `skv_s2_reading_vhigh` with the eFuse skipped, which takes no dump: the bases alone. Refusal 7.
 #[no_mangle]
 pub extern "C" fn skv_s2_skipped_vhigh(version: u8, unit: u8, atten: u8) -> SkvReading
-    ensures { λ r. ⌜ r ≡ s2ReadingC (skippedReadingOf version unit atten Vhigh) ⌝ }
+    ensures { λ r. ⌜ r ≡ readingC (skippedReadingOf version unit atten Vhigh) ⌝ }
 {
-    s2_reading_c(reading::rtc_calib_reading_skipped(version, unit, atten, RtcCalibParam::Vhigh))
+    reading_c(reading::rtc_calib_reading_skipped(version, unit, atten, RtcCalibParam::Vhigh))
 }
 
 // The same of `skv_s2_reading_vinit` with the eFuse skipped, which takes no dump: the bases alone. Refusal 7.
 #[no_mangle]
 pub extern "C" fn skv_s2_skipped_vinit(version: u8, unit: u8, atten: u8) -> SkvReading
-    ensures { λ r. ⌜ r ≡ s2ReadingC (skippedReadingOf version unit atten Vinit) ⌝ }
+    ensures { λ r. ⌜ r ≡ readingC (skippedReadingOf version unit atten Vinit) ⌝ }
 {
-    s2_reading_c(reading::rtc_calib_reading_skipped(version, unit, atten, RtcCalibParam::Vinit))
+    reading_c(reading::rtc_calib_reading_skipped(version, unit, atten, RtcCalibParam::Vinit))
 }

@@ -9,7 +9,7 @@ use Rattle.terms.specs.Refuse.{unitRefusal}
 use Rattle.terms.specs.When.{UnitWhen}
 use Rattle.terms.proofs.Exactly.{unit-exactly}
 use Rattle.terms.proofs.Refusals.{orElse-some, answered-good, answered-refused}
-use Rattle.curve.specs.declared.correct.Corrected.the-variants.{Answer, Refused}
+use Rattle.terms.specs.declared.voltage.Voltage.the-variants.{Value, Refused}
 use Rattle.curve.specs.Table.{tableOf, missing, curveIn}
 use Rattle.curve.specs.Correct.{correctedOf, correctRefusal, correctOf}
 use Rattle.curve.specs.Flat.{numbered}
@@ -62,8 +62,8 @@ module _ (chip : Chip) (unit atten : ℕ) (line : Millivolt) where
         answered-refused _ _ Refused (sym (correct-exactly chip unit atten line 13 .1 (line-above unit-given (found h) l))) (λ z. omega arith)
 
     pub correct-good : {v : ℕ} → table ≤ 9 → line .0 ≤ 4095 → v ≡ correctedOf (curveIn (numbered table) atten) (line .0)
-        → Answer (record { 0 = v }) ≡ correctOf chip unit atten line
+        → Value (record { 0 = v }) ≡ correctOf chip unit atten line
     unfolding correctOf
     correct-good h l v =
         answered-good _ _ Refused (correct-exactly chip unit atten line 0 .1 (corrected unit-given (found h) l))
-        (ap (λ (n : ℕ). Answer (record { 0 = n })) (v ∙ rw is))
+        (ap (λ (n : ℕ). Value (record { 0 = n })) (v ∙ rw is))

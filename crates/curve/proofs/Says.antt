@@ -1,17 +1,12 @@
 -- The number and the value of the answer are document 01's. Assumes nothing.
-use mathlib.Core.Path.{refl}
 use Prim.Native.Nat.{ℕ}
 use Rattle.terms.specs.declared.chip.Chip.{Chip}
 use Rattle.terms.specs.declared.quantity.Millivolt.{Millivolt}
 use Rattle.terms.specs.Says.{Says}
-use Rattle.terms.proofs.Says.{Paper, says}
-use Rattle.curve.specs.declared.correct.Corrected.the-variants.{Answer, Refused}
+use Rattle.terms.specs.Voltage.{numberOf, valueOf}
+use Rattle.terms.proofs.Says.{voltage-says}
 use Rattle.curve.specs.Table.{tableOf, curveIn}
-use Rattle.curve.specs.Correct.{correctedOf, correctRefusal, numberOf, valueOf, correctOf}
-
-corrected-paper : Paper numberOf valueOf (record { 0 = 0 }) Answer Refused
-corrected-paper =
-    record { good-number = λ v. refl; good-value = λ v. refl; refused-number = λ r. refl; refused-value = λ r. refl }
+use Rattle.curve.specs.Correct.{correctedOf, correctRefusal, correctOf}
 
 -- `correct`
 pub correct-says : (chip : Chip) (unit atten : ℕ) (line : Millivolt)
@@ -19,4 +14,4 @@ pub correct-says : (chip : Chip) (unit atten : ℕ) (line : Millivolt)
     (correctOf chip unit atten line) (correctRefusal chip unit atten line)
     (record { 0 = correctedOf (curveIn (tableOf chip unit) atten) (line .0) })
 unfolding correctOf
-correct-says chip unit atten line = says corrected-paper _ _
+correct-says chip unit atten line = voltage-says _ _

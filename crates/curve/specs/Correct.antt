@@ -10,8 +10,8 @@ use lib.Signed.{quotZ}
 use Rattle.terms.specs.declared.chip.Chip.{Chip}
 use Rattle.terms.specs.declared.quantity.Millivolt.{Millivolt}
 use Rattle.terms.specs.Refuse.{refuse, orElse, answered, unitRefusal}
-use Rattle.curve.specs.declared.correct.Corrected.{Corrected}
-use Rattle.curve.specs.declared.correct.Corrected.the-variants.{Answer, Refused}
+use Rattle.terms.specs.declared.voltage.Voltage.{Voltage}
+use Rattle.terms.specs.declared.voltage.Voltage.the-variants.{Value, Refused}
 use Rattle.curve.specs.Decimal.{Decimal, coefficient}
 use Rattle.curve.specs.Table.{missing, curveIn, tableOf}
 
@@ -39,18 +39,9 @@ correctRefusal chip unit atten line =
     (refuse (missing (tableOf chip unit)) 14
     (refuse (ltb 4095 (line .0)) 13 0))
 
--- document 01's number and millivolts of an answer, zeros beside a refusal
-abbrev pub numberOf : Corrected → ℕ
-numberOf (Answer m) = 0
-numberOf (Refused r) = r .number
-
-abbrev pub valueOf : Corrected → Millivolt
-valueOf (Answer m) = m
-valueOf (Refused r) = record { 0 = 0 }
-
 -- the corrected line answer, or its refusal
-unfoldable pub correctOf : Chip → ℕ → ℕ → Millivolt → Corrected
+unfoldable pub correctOf : Chip → ℕ → ℕ → Millivolt → Voltage
 correctOf chip unit atten line =
     answered (correctRefusal chip unit atten line)
-    (Answer (record { 0 = correctedOf (curveIn (tableOf chip unit) atten) (line .0) }))
+    (Value (record { 0 = correctedOf (curveIn (tableOf chip unit) atten) (line .0) }))
     Refused

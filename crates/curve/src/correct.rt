@@ -6,6 +6,7 @@ use terms::chip::Chip;
 use terms::quantity::Millivolt;
 use terms::refusal;
 use terms::refusal::Refusal;
+use terms::voltage::Voltage;
 ghost use mathlib.Core.Path.{_≡_};
 ghost use Prim.Native.Nat.{_<_, _≤_};
 ghost use Rattle.curve.specs.Correct.{errorOf, correctedOf, correctOf};
@@ -16,12 +17,6 @@ ghost use Rattle.curve.specs.Table.{curveIn};
 const COEFF_MUL: i64 = 4503599627370496;
 
 const LARGEST_LINE: u16 = 4095;
-
-// A corrected line answer, or why there is none.
-pub enum Corrected {
-    Answer(Millivolt),
-    Refused(Refusal),
-}
 
 // The error of a line answer v by a table at an attenuation, in millivolts.
 fn error_of(table: u8, atten: u8, v: u16) -> i64
@@ -44,24 +39,24 @@ fn less_error(table: u8, atten: u8, v: u16) -> u16
 
 // Corrects a line answer by the curve of its chip, unit and attenuation. Any input is answered; refusals 7, 14, 13. The answer may be
 // above the line answer, and above 4095.
-pub fn correct(chip: Chip, unit: u8, atten: u8, line: Millivolt) -> Corrected
+pub fn correct(chip: Chip, unit: u8, atten: u8, line: Millivolt) -> Voltage
     ensures { λ r. ⌜ r ≡ correctOf chip unit atten line ⌝ }
 {
     let number = refusal::unit_refusal(unit, atten);
     if number != refusal::NONE {
-        return Corrected::Refused(Refusal { number });
+        return Voltage::Refused(Refusal { number });
     }
     let table = table_of(chip, unit);
     if LAST_TABLE < table {
-        return Corrected::Refused(Refusal {
+        return Voltage::Refused(Refusal {
             number: refusal::CURVE,
         });
     }
     let v = line.0;
     if LARGEST_LINE < v {
-        return Corrected::Refused(Refusal {
+        return Voltage::Refused(Refusal {
             number: refusal::LINE_ANSWER,
         });
     }
-    Corrected::Answer(Millivolt(less_error(table, atten, v)))
+    Voltage::Value(Millivolt(less_error(table, atten, v)))
 }

@@ -1,40 +1,20 @@
 // data/tables: every curve over all line answers. data/single: any chip, unit, attenuation and line answer.
 use curve::correct;
-use curve::correct::Corrected;
 use replay::answer;
 use replay::answer::Answer;
 use replay::bytes;
-use terms::chip::Chip;
+use terms::chip::numbered;
 use terms::quantity::Millivolt;
 use terms::refusal;
 
 const LINE_ANSWERS: u16 = 4096;
 
-// The chips, as the lists number them.
-fn chip_of(number: u8, minor: u8) -> Chip {
-    match number {
-        0 => Chip::Esp32,
-        1 => Chip::S2,
-        2 => Chip::C3,
-        3 => Chip::C5,
-        4 => Chip::C6(minor),
-        5 => Chip::C61,
-        6 => Chip::H2,
-        7 => Chip::P4,
-        _ => Chip::S3,
-    }
-}
-
 // What the library answers to a line answer, by the chip, unit and attenuation at the start of a case.
 fn correct_answer(case: &[u8], line: u16) -> Answer {
-    let chip = chip_of(bytes::number8(case, 0), bytes::number8(case, 1));
+    let chip = numbered(bytes::number8(case, 0), bytes::number8(case, 1));
     let unit = bytes::number8(case, 2);
     let atten = bytes::number8(case, 3);
-    let corrected = correct::correct(chip, unit, atten, Millivolt(line));
-    match corrected {
-        Corrected::Answer(mv) => answer::good(mv.0 as i64),
-        Corrected::Refused(why) => answer::refused(why),
-    }
+    answer::voltage(correct::correct(chip, unit, atten, Millivolt(line)))
 }
 
 // Whether a line answer has that answer.

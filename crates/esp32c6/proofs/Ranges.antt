@@ -6,14 +6,16 @@ use native.Mathlib.Nat.{min-le-right}
 use native.Mathlib.Omega.{arith}
 use lib.IntN.{pos, natAbs, _+ℤ_}
 use Rattle.terms.specs.declared.chip.MapChip.the-variants.{C6}
+use Rattle.terms.specs.Code.{valueOf}
+use Rattle.terms.specs.Reading.{valueOf as compensValue}
 use Rattle.terms.specs.Sign.{signMagnitude}
 use Rattle.terms.proofs.Whole.{up, dn}
 use Rattle.maps.specs.Input.{decodingRefusal}
 use Rattle.maps.specs.Value.{valueById}
 use Rattle.maps.proofs.Inputs.{decoding-good}
 use Rattle.terms.specs.C6Version.{versionOf}
-use Rattle.esp32c6.specs.Code.{codeRefusal, valueOf, initCodeOf, offsetOf, calCode, calCodeOf}
-use Rattle.esp32c6.specs.Channel.{chanCompensOf, valueOf as compensValue}
+use Rattle.esp32c6.specs.Code.{codeRefusal, initCodeOf, offsetOf, calCode, calCodeOf}
+use Rattle.esp32c6.specs.Channel.{chanCompensOf}
 use Rattle.esp32c6.proofs.Channels.{compens-range}
 use Rattle.esp32c6.proofs.Codes.{code-good, offset-first, offset-second, offset-range, code-whole, code-near}
 use Rattle.esp32c6.proofs.Fields.{init-fits, cal-fits, channel-fits}

@@ -1,62 +1,46 @@
 -- The number and the value of each answer are document 01's. Assumes nothing.
-use mathlib.Core.Path.{refl}
 use mathlib.Core.List.{List}
 use Prim.Native.Nat.{ℕ, _+_, min}
 use lib.IntN.{pos, natAbs}
 use Rattle.terms.specs.declared.chip.MapChip.the-variants.{C6}
 use Rattle.terms.specs.Refuse.{unitRefusal}
 use Rattle.terms.specs.Says.{Says}
-use Rattle.terms.proofs.Says.{Paper, says}
+use Rattle.terms.specs.Code as code
+use Rattle.terms.specs.Reading as reading
+use Rattle.terms.specs.Voltage as voltage
+use Rattle.terms.proofs.Says.{code-says, reading-says, voltage-says}
 use Rattle.maps.specs.Input.{decodingRefusal}
 use Rattle.maps.specs.Value.{valueById}
-use Rattle.esp32c6.specs.declared.channel.Compens.the-variants.{Value as Compensation, Refused as No-compensation}
-use Rattle.esp32c6.specs.declared.code.Code.the-variants.{Value as Code, Refused as No-code}
-use Rattle.esp32c6.specs.declared.reference.CalMv.the-variants.{Value as Voltage, Refused as No-voltage}
-use Rattle.esp32c6.specs.Channel as compens
-use Rattle.esp32c6.specs.Code as code
-use Rattle.esp32c6.specs.Reference as reference
 use Rattle.esp32c6.specs.Channel.{compensOf, chanCompensOf}
 use Rattle.esp32c6.specs.Code.{codeRefusal, initCodeOf, calCode, calCodeOf}
 use Rattle.esp32c6.specs.Reference.{millivoltsOf, calMvOf}
 use Rattle.terms.specs.C6Version.{versionOf}
-
-code-paper : Paper code.numberOf code.valueOf 0 Code No-code
-code-paper =
-    record { good-number = λ v. refl; good-value = λ v. refl; refused-number = λ r. refl; refused-value = λ r. refl }
-
-compens-paper : Paper compens.numberOf compens.valueOf (pos 0) Compensation No-compensation
-compens-paper =
-    record { good-number = λ v. refl; good-value = λ v. refl; refused-number = λ r. refl; refused-value = λ r. refl }
-
-cal-mv-paper : Paper reference.numberOf reference.valueOf (record { 0 = 0 }) Voltage No-voltage
-cal-mv-paper =
-    record { good-number = λ v. refl; good-value = λ v. refl; refused-number = λ r. refl; refused-value = λ r. refl }
 
 module _ (words : ℕ → ℕ) (dump map : List ℕ) (minor unit atten : ℕ) where
   -- `rtc_calib_init_code`
   pub init-code-says : Says code.numberOf code.valueOf 0
       (initCodeOf words dump map minor unit atten) (codeRefusal words dump map minor unit atten) (valueById C6 dump map (9 + atten) + 1600)
   unfolding initCodeOf
-  init-code-says = says code-paper _ _
+  init-code-says = code-says _ _
 
   -- `rtc_calib_cal_code`
   pub cal-code-says : Says code.numberOf code.valueOf 0
       (calCodeOf words dump map minor unit atten) (codeRefusal words dump map minor unit atten)
       (natAbs (calCode (versionOf minor) atten (valueById C6 dump map (13 + atten))))
   unfolding calCodeOf
-  cal-code-says = says code-paper _ _
+  cal-code-says = code-says _ _
 
 -- `rtc_calib_get_chan_compens`
 pub compens-says : (words : ℕ → ℕ) (dump map : List ℕ) (unit channel atten : ℕ)
-    → Says compens.numberOf compens.valueOf (pos 0)
+    → Says reading.numberOf reading.valueOf (pos 0)
     (chanCompensOf words dump map unit channel atten) (decodingRefusal words C6 dump map unit atten)
     (compensOf atten (valueById C6 dump map (17 + min channel 6)))
 unfolding chanCompensOf
-compens-says words dump map unit channel atten = says compens-paper _ _
+compens-says words dump map unit channel atten = reading-says _ _
 
 -- `rtc_calib_cal_mv`
 pub cal-mv-says : (minor unit atten : ℕ)
-    → Says reference.numberOf reference.valueOf (record { 0 = 0 })
+    → Says voltage.numberOf voltage.valueOf (record { 0 = 0 })
     (calMvOf minor unit atten) (unitRefusal unit atten) (record { 0 = millivoltsOf (versionOf minor) atten })
 unfolding calMvOf
-cal-mv-says minor unit atten = says cal-mv-paper _ _
+cal-mv-says minor unit atten = voltage-says _ _

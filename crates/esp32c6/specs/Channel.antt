@@ -8,24 +8,15 @@ use Rattle.terms.specs.Refuse.{answered}
 use Rattle.terms.specs.Sign.{signMagnitude}
 use Rattle.maps.specs.Input.{decodingRefusal}
 use Rattle.maps.specs.Value.{valueById}
-use Rattle.esp32c6.specs.declared.channel.Compens.{Compens}
-use Rattle.esp32c6.specs.declared.channel.Compens.the-variants.{Value, Refused}
-
--- document 01's number and value of a compensation, zeros beside a refusal
-abbrev pub numberOf : Compens → ℕ
-numberOf (Value z) = 0
-numberOf (Refused r) = r .number
-
-abbrev pub valueOf : Compens → ℤ
-valueOf (Value z) = z
-valueOf (Refused r) = pos 0
+use Rattle.terms.specs.declared.reading.Reading.{Reading}
+use Rattle.terms.specs.declared.reading.Reading.the-variants.{Value, Refused}
 
 -- four bits in sign and magnitude, times 4 less the attenuation
 unfoldable pub compensOf : ℕ → ℕ → ℤ
 compensOf atten bits = signMagnitude 4 bits *ℤ pos (4 - atten)
 
 -- by the bits of ADC1_INIT_CODE_ATTEN0_CH0..6, ids 17 to 23: "Channels 6 and up use channel 6"
-unfoldable pub chanCompensOf : (ℕ → ℕ) → List ℕ → List ℕ → ℕ → ℕ → ℕ → Compens
+unfoldable pub chanCompensOf : (ℕ → ℕ) → List ℕ → List ℕ → ℕ → ℕ → ℕ → Reading
 chanCompensOf words dump map unit channel atten =
     answered (decodingRefusal words C6 dump map unit atten)
     (Value (compensOf atten (valueById C6 dump map (17 + min channel 6))))

@@ -11,8 +11,8 @@ use Rattle.terms.specs.Refuse.{refuse, orElse, answered}
 use Rattle.terms.specs.Sign.{signMagnitude}
 use Rattle.maps.specs.Input.{decodingRefusal}
 use Rattle.maps.specs.Value.{valueById}
-use Rattle.esp32c6.specs.declared.code.Code.{Code}
-use Rattle.esp32c6.specs.declared.code.Code.the-variants.{Value, Refused}
+use Rattle.terms.specs.declared.code.Code.{Code}
+use Rattle.terms.specs.declared.code.Code.the-variants.{Value, Refused}
 use Rattle.terms.specs.C6Version.{versionOf}
 
 -- 12: C6 version not 1 or 2
@@ -24,15 +24,6 @@ unfoldable pub codeRefusal : (ℕ → ℕ) → List ℕ → List ℕ → ℕ →
 codeRefusal words dump map minor unit atten =
     orElse (decodingRefusal words C6 dump map unit atten)
     (versionRefusal minor)
-
--- document 01's number and value of a code, zeros beside a refusal
-abbrev pub numberOf : Code → ℕ
-numberOf (Value code) = 0
-numberOf (Refused r) = r .number
-
-abbrev pub valueOf : Code → ℕ
-valueOf (Value code) = code
-valueOf (Refused r) = 0
 
 -- the bits of ADC1_INIT_CODE_ATTEN0..3, ids 9 to 12, and 1600
 unfoldable pub initCodeOf : (ℕ → ℕ) → List ℕ → List ℕ → ℕ → ℕ → ℕ → Code

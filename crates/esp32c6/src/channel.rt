@@ -4,6 +4,7 @@ use crate::field::get_signed_val;
 use maps::input::decoding_refusal;
 use maps::value::record_value;
 use terms::chip::MapChip;
+use terms::reading::Reading;
 use terms::refusal;
 use terms::refusal::Refusal;
 ghost use mathlib.Core.Path.{_≡_};
@@ -14,12 +15,6 @@ ghost use Rattle.esp32c6.specs.Channel.{compensOf, chanCompensOf};
 const LAST_CHANNEL: u8 = 6;
 
 const CHAN_DIFF_SIGN_BIT: u32 = 3;
-
-// A compensation, or why there is none.
-pub enum Compens {
-    Value(i32),
-    Refused(Refusal),
-}
 
 // The channel whose field is used: channels 6 and up use channel 6.
 fn field_channel(channel: u8) -> u8
@@ -46,17 +41,17 @@ pub fn rtc_calib_get_chan_compens(
     unit: u8,
     channel: u8,
     atten: u8,
-) -> Compens
+) -> Reading
     ensures { λ r. ⌜ r ≡ chanCompensOf eight (now (dump .entry)) (now (map .entry)) unit channel atten ⌝ }
 {
     let number = decoding_refusal(MapChip::C6, dump, map, unit, atten);
     if number != refusal::NONE {
-        return Compens::Refused(Refusal { number });
+        return Reading::Refused(Refusal { number });
     }
     let chan_diff = record_value(
         dump,
         map,
         ADC1_INIT_CODE_ATTEN0_CH0 + (field_channel(channel) as usize),
     );
-    Compens::Value(chan_compens(chan_diff, atten))
+    Reading::Value(chan_compens(chan_diff, atten))
 }

@@ -6,6 +6,7 @@ use maps::input::decoding_refusal;
 use maps::value::record_value;
 use terms::c6_version::rtc_calib_version;
 use terms::chip::MapChip;
+use terms::code::Code;
 use terms::refusal;
 use terms::refusal::Refusal;
 ghost use mathlib.Core.Path.{_≡_};
@@ -18,12 +19,6 @@ ghost use Rattle.esp32c6.specs.Code.{versionRefusal, codeRefusal, initCo
 const INIT_CODE_BASE: u16 = 1600;
 
 const CAL_VOL_SIGN_BIT: u32 = 9;
-
-// A code, or why there is none.
-pub enum Code {
-    Value(u16),
-    Refused(Refusal),
-}
 
 // 12 where that minor block version has no calibration.
 fn version_refusal(minor: u8) -> u8

@@ -4,6 +4,7 @@ use terms::quantity::Millivolt;
 use terms::refusal;
 use terms::refusal::Refusal;
 use terms::refusal::unit_refusal;
+use terms::voltage::Voltage;
 ghost use mathlib.Core.Path.{_≡_};
 ghost use Prim.Native.Nat.{_≤_};
 ghost use Rattle.esp32c6.specs.Reference.{millivoltsOf, calMvOf};
@@ -11,12 +12,6 @@ ghost use Rattle.esp32c6.specs.Reference.{millivoltsOf, calMvOf};
 const INPUT_VOUT_MV: [u16; 4] = [400, 550, 750, 1370];
 
 const INPUT_VOUT_MV_V2: [u16; 4] = [750, 1000, 1500, 2800];
-
-// A reference voltage, or why there is none.
-pub enum CalMv {
-    Value(Millivolt),
-    Refused(Refusal),
-}
 
 fn input_vout_mv(version: u8, atten: u8) -> u16
     requires { ⌜ atten ≤ 3 ⌝ }
@@ -30,12 +25,12 @@ fn input_vout_mv(version: u8, atten: u8) -> u16
 }
 
 // The voltage at an attenuation's reference point; version 0 has version 1's. Refusal 7.
-pub fn rtc_calib_cal_mv(minor: u8, unit: u8, atten: u8) -> CalMv
+pub fn rtc_calib_cal_mv(minor: u8, unit: u8, atten: u8) -> Voltage
     ensures { λ r. ⌜ r ≡ calMvOf minor unit atten ⌝ }
 {
     let number = unit_refusal(unit, atten);
     if number != refusal::NONE {
-        return CalMv::Refused(Refusal { number });
+        return Voltage::Refused(Refusal { number });
     }
-    CalMv::Value(Millivolt(input_vout_mv(rtc_calib_version(minor), atten)))
+    Voltage::Value(Millivolt(input_vout_mv(rtc_calib_version(minor), atten)))
 }

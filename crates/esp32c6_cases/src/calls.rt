@@ -1,10 +1,7 @@
 // data/calls: calls on dumps, with a record of the map replaced, and their answers.
 use esp32c6::channel;
-use esp32c6::channel::Compens;
 use esp32c6::code;
-use esp32c6::code::Code;
 use esp32c6::reference;
-use esp32c6::reference::CalMv;
 use replay::answer;
 use replay::answer::Answer;
 use replay::bytes;
@@ -21,27 +18,6 @@ const CAL_CODE: u8 = 2;
 
 const CHAN_COMPENS: u8 = 3;
 
-fn code_answer(got: Code) -> Answer {
-    match got {
-        Code::Value(code) => answer::good(code as i64),
-        Code::Refused(why) => answer::refused(why),
-    }
-}
-
-fn compens_answer(got: Compens) -> Answer {
-    match got {
-        Compens::Value(compens) => answer::good_signed(compens),
-        Compens::Refused(why) => answer::refused(why),
-    }
-}
-
-fn mv_answer(got: CalMv) -> Answer {
-    match got {
-        CalMv::Value(mv) => answer::good(mv.0 as i64),
-        CalMv::Refused(why) => answer::refused(why),
-    }
-}
-
 // What the library answers to a case's call.
 fn call_answer(dump: &[u32], map: &[u8], case: &[u8]) -> Answer {
     let minor = bytes::number8(case, 12);
@@ -50,16 +26,16 @@ fn call_answer(dump: &[u32], map: &[u8], case: &[u8]) -> Answer {
     let channel = bytes::number8(case, 15);
     match bytes::number8(case, 11) {
         VERSION => answer::good(c6_version::rtc_calib_version(minor) as i64),
-        INIT_CODE => code_answer(code::rtc_calib_init_code(dump, map, minor, unit, atten)),
-        CAL_CODE => code_answer(code::rtc_calib_cal_code(dump, map, minor, unit, atten)),
-        CHAN_COMPENS => compens_answer(channel::rtc_calib_get_chan_compens(
+        INIT_CODE => answer::code(code::rtc_calib_init_code(dump, map, minor, unit, atten)),
+        CAL_CODE => answer::code(code::rtc_calib_cal_code(dump, map, minor, unit, atten)),
+        CHAN_COMPENS => answer::reading(channel::rtc_calib_get_chan_compens(
             dump,
             map,
             unit,
             channel,
             atten,
         )),
-        _ => mv_answer(reference::rtc_calib_cal_mv(minor, unit, atten)),
+        _ => answer::voltage(reference::rtc_calib_cal_mv(minor, unit, atten)),
     }
 }
 

@@ -6,6 +6,7 @@ use mathlib.Core.List.{List}
 use Prim.Native.Nat.{ℕ, _+_, _*_, _≤_, _<_}
 use native.Mathlib.Omega.{arith}
 use lib.IntN.{ℤ, pos, natAbs}
+use Rattle.terms.specs.Code.{valueOf}
 use Rattle.terms.proofs.Check.{rule}
 use Rattle.terms.proofs.Whole.{up}
 use Rattle.esp32s2.specs.declared.tag.RtcCalibParam.{RtcCalibParam}
@@ -13,7 +14,7 @@ use Rattle.esp32s2.specs.declared.tag.RtcCalibParam.the-variants.{Vhigh,
 use Rattle.esp32s2.specs.Table.{calibMap, entryAt, along}
 use Rattle.esp32s2.specs.Reading.{readingOf}
 use Rattle.esp32s2.specs.Tag.{byVersion, firstTag, tagOf}
-use Rattle.esp32s2.specs.Code.{codeRefusal, valueOf, codeOf, initCodeOf, calCodeOf}
+use Rattle.esp32s2.specs.Code.{codeRefusal, codeOf, initCodeOf, calCodeOf}
 use Rattle.esp32s2.proofs.Rule.{Spread, spread, rule-of}
 use Rattle.esp32s2.proofs.Chains.{reading-none, reading-whole, reading-range}
 use Rattle.esp32s2.proofs.Codes.{code-good}

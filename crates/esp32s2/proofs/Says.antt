@@ -7,18 +7,16 @@ use lib.IntN.{pos, natAbs}
 use Rattle.terms.specs.declared.chip.MapChip.the-variants.{S2}
 use Rattle.terms.specs.Refuse.{unitRefusal}
 use Rattle.terms.specs.Says.{Says}
+use Rattle.terms.specs.Code as code
+use Rattle.terms.specs.Reading as reading
+use Rattle.terms.specs.Voltage as voltage
 use Rattle.terms.proofs.Says.{Paper, says}
+use Rattle.terms.proofs.Says.{code-says as code-given, reading-says as reading-given, voltage-says}
 use Rattle.maps.specs.Input.{fieldsRefusal}
 use Rattle.maps.specs.Value.{valueById}
-use Rattle.esp32s2.specs.declared.code.Code.the-variants.{Value as Code, Refused as No-code}
 use Rattle.esp32s2.specs.declared.encryption.FlashEncryption.the-variants.{Value as Encryption, Refused as No-encryption}
-use Rattle.esp32s2.specs.declared.reading.Reading.the-variants.{Value as Reading, Refused as No-reading}
-use Rattle.esp32s2.specs.declared.reference.CalMv.the-variants.{Value as Voltage, Refused as No-voltage}
 use Rattle.esp32s2.specs.declared.version.Version.the-variants.{Value as Version, Refused as No-version}
-use Rattle.esp32s2.specs.Code as code
 use Rattle.esp32s2.specs.Encryption as encryption
-use Rattle.esp32s2.specs.Reading as reading
-use Rattle.esp32s2.specs.Reference as reference
 use Rattle.esp32s2.specs.Version as version
 use Rattle.esp32s2.specs.declared.tag.RtcCalibParam.{RtcCalibParam}
 use Rattle.esp32s2.specs.Code.{codeRefusal, codeOf}
@@ -30,18 +28,6 @@ use Rattle.esp32s2.specs.Version.{versionOf, calibVersionOf}
 
 version-paper : Paper version.numberOf version.valueOf 0 Version No-version
 version-paper =
-    record { good-number = λ v. refl; good-value = λ v. refl; refused-number = λ r. refl; refused-value = λ r. refl }
-
-reading-paper : Paper reading.numberOf reading.valueOf (pos 0) Reading No-reading
-reading-paper =
-    record { good-number = λ v. refl; good-value = λ v. refl; refused-number = λ r. refl; refused-value = λ r. refl }
-
-code-paper : Paper code.numberOf code.valueOf 0 Code No-code
-code-paper =
-    record { good-number = λ v. refl; good-value = λ v. refl; refused-number = λ r. refl; refused-value = λ r. refl }
-
-cal-mv-paper : Paper reference.numberOf reference.valueOf (record { 0 = 0 }) Voltage No-voltage
-cal-mv-paper =
     record { good-number = λ v. refl; good-value = λ v. refl; refused-number = λ r. refl; refused-value = λ r. refl }
 
 encryption-paper : Paper encryption.numberOf encryption.valueOf false Encryption No-encryption
@@ -67,7 +53,7 @@ module _ (words : ℕ → ℕ) (dump map : List ℕ) where
       (codeOf words dump map unit atten param) (codeRefusal words dump map unit atten)
       (natAbs (readingOf dump false (tagOf 2 unit atten param)))
   unfolding codeOf
-  code-says unit atten param = says code-paper _ _
+  code-says unit atten param = code-given _ _
 
 module _ (version unit atten : ℕ) (param : RtcCalibParam) where
   -- `rtc_calib_reading`
@@ -76,17 +62,17 @@ module _ (version unit atten : ℕ) (param : RtcCalibParam) where
       (calibReadingOf dump version unit atten param) (readingRefusal dump unit atten)
       (readingOf dump false (tagOf version unit atten param))
   unfolding calibReadingOf
-  reading-says dump = says reading-paper _ _
+  reading-says dump = reading-given _ _
 
   -- `rtc_calib_reading_skipped`
   pub skipped-says : Says reading.numberOf reading.valueOf (pos 0)
       (skippedReadingOf version unit atten param) (unitRefusal unit atten) (readingOf [] true (tagOf version unit atten param))
   unfolding skippedReadingOf
-  skipped-says = says reading-paper _ _
+  skipped-says = reading-given _ _
 
 -- `rtc_calib_cal_mv`
 pub cal-mv-says : (unit atten : ℕ)
-    → Says reference.numberOf reference.valueOf (record { 0 = 0 })
+    → Says voltage.numberOf voltage.valueOf (record { 0 = 0 })
     (calMvOf unit atten) (unitRefusal unit atten) (record { 0 = millivoltsOf atten })
 unfolding calMvOf
-cal-mv-says unit atten = says cal-mv-paper _ _
+cal-mv-says unit atten = voltage-says _ _

@@ -8,8 +8,8 @@ use lib.IntN.{natAbs}
 use Rattle.terms.specs.declared.chip.MapChip.the-variants.{S2}
 use Rattle.terms.specs.Refuse.{refuse, orElse, answered}
 use Rattle.maps.specs.Input.{decodingRefusal}
-use Rattle.esp32s2.specs.declared.code.Code.{Code}
-use Rattle.esp32s2.specs.declared.code.Code.the-variants.{Value, Refused}
+use Rattle.terms.specs.declared.code.Code.{Code}
+use Rattle.terms.specs.declared.code.Code.the-variants.{Value, Refused}
 use Rattle.esp32s2.specs.declared.tag.RtcCalibParam.{RtcCalibParam}
 use Rattle.esp32s2.specs.declared.tag.RtcCalibParam.the-variants.{Vhigh, Vinit}
 use Rattle.esp32s2.specs.Reading.{readingOf}
@@ -22,15 +22,6 @@ unfoldable pub codeRefusal : (ℕ → ℕ) → List ℕ → List ℕ → ℕ →
 codeRefusal words dump map unit atten =
     orElse (decodingRefusal words S2 dump map unit atten)
     (refuse (not (eqb (versionOf dump map) 2)) 12 0)
-
--- document 01's number and value of a code, zeros beside a refusal
-abbrev pub numberOf : Code → ℕ
-numberOf (Value code) = 0
-numberOf (Refused r) = r .number
-
-abbrev pub valueOf : Code → ℕ
-valueOf (Value code) = code
-valueOf (Refused r) = 0
 
 -- version 2's reading of a parameter, which is never negative (`code-whole`)
 unfoldable pub codeOf : (ℕ → ℕ) → List ℕ → List ℕ → ℕ → ℕ → RtcCalibParam → Code

@@ -11,8 +11,8 @@ use Rattle.efuse.specs.Dump.{dumpRefusal}
 use Rattle.efuse.specs.Field.{bitsOf}
 use Rattle.esp32s2.specs.declared.table.RtcCalibEntry.{RtcCalibEntry}
 use Rattle.esp32s2.specs.declared.tag.RtcCalibParam.{RtcCalibParam}
-use Rattle.esp32s2.specs.declared.reading.Reading.{Reading}
-use Rattle.esp32s2.specs.declared.reading.Reading.the-variants.{Value, Refused}
+use Rattle.terms.specs.declared.reading.Reading.{Reading}
+use Rattle.terms.specs.declared.reading.Reading.the-variants.{Value, Refused}
 use Rattle.esp32s2.specs.Table.{beginBit, bitLength, multiplier, base, depends, entryAt}
 use Rattle.esp32s2.specs.Tag.{tagOf}
 
@@ -36,15 +36,6 @@ readingOf = within 4
 -- 1 for the dump, then 7 for unit and attenuation
 unfoldable pub readingRefusal : List ℕ → ℕ → ℕ → ℕ
 readingRefusal dump unit atten = orElse (dumpRefusal dump) (unitRefusal unit atten)
-
--- document 01's number and value of a reading, zeros beside a refusal
-abbrev pub numberOf : Reading → ℕ
-numberOf (Value z) = 0
-numberOf (Refused r) = r .number
-
-abbrev pub valueOf : Reading → ℤ
-valueOf (Value z) = z
-valueOf (Refused r) = pos 0
 
 unfoldable pub calibReadingOf : List ℕ → ℕ → ℕ → ℕ → RtcCalibParam → Reading
 calibReadingOf dump version unit atten param =

@@ -6,6 +6,7 @@ use crate::version::BLK_VERSION_MINOR;
 use maps::input::decoding_refusal;
 use maps::value::record_value;
 use terms::chip::MapChip;
+use terms::code::Code;
 use terms::refusal;
 use terms::refusal::Refusal;
 ghost use mathlib.Core.Path.{_≡_};
@@ -19,12 +20,6 @@ ghost use Rattle.esp32s2.specs.Tag.{tagOf};
 ghost use Rattle.esp32s2.specs.Code.{codeRefusal, codeOf, initCodeOf, calCodeOf};
 
 const CODE_VERSION: u8 = 2;
-
-// A code, or why there is none.
-pub enum Code {
-    Value(u16),
-    Refused(Refusal),
-}
 
 // The first thing wrong with a call for a code: 1, 7, the map's, 12.
 fn code_refusal(dump: &[u32], map: &[u8], unit: u8, atten: u8) -> u8

@@ -6,6 +6,7 @@ use efuse::dump::dump_refusal;
 use efuse::field::EfuseField;
 use efuse::field::Read;
 use efuse::field::read_field_u32;
+use terms::reading::Reading;
 use terms::refusal;
 use terms::refusal::Refusal;
 use terms::refusal::unit_refusal;
@@ -19,12 +20,6 @@ ghost use Rattle.esp32s2.specs.Table.{entryAt};
 ghost use Rattle.esp32s2.specs.Reading.{termOf, readingOf, readingRefusal, calibReadingOf, skippedReadingOf};
 
 const TABLE_BLOCK: u8 = 2;
-
-// A reading, or why there is none.
-pub enum Reading {
-    Value(i32),
-    Refused(Refusal),
-}
 
 // A code whose sign is its top bit, and whose magnitude is the bits below it.
 fn signed_bit_to_int(number: u32, len: u8) -> i32

@@ -3,17 +3,12 @@ use terms::quantity::Millivolt;
 use terms::refusal;
 use terms::refusal::Refusal;
 use terms::refusal::unit_refusal;
+use terms::voltage::Voltage;
 ghost use mathlib.Core.Path.{_≡_};
 ghost use Prim.Native.Nat.{_≤_};
 ghost use Rattle.esp32s2.specs.Reference.{millivoltsOf, calMvOf};
 
 const CAL_MV: [u16; 4] = [600, 800, 1000, 2000];
-
-// A reference voltage, or why there is none.
-pub enum CalMv {
-    Value(Millivolt),
-    Refused(Refusal),
-}
 
 fn cal_millivolts(atten: u8) -> u16
     requires { ⌜ atten ≤ 3 ⌝ }
@@ -24,12 +19,12 @@ fn cal_millivolts(atten: u8) -> u16
 }
 
 // The voltage at an attenuation's reference point, for either unit. Refusal 7.
-pub fn rtc_calib_cal_mv(unit: u8, atten: u8) -> CalMv
+pub fn rtc_calib_cal_mv(unit: u8, atten: u8) -> Voltage
     ensures { λ r. ⌜ r ≡ calMvOf unit atten ⌝ }
 {
     let number = unit_refusal(unit, atten);
     if number != refusal::NONE {
-        return CalMv::Refused(Refusal { number });
+        return Voltage::Refused(Refusal { number });
     }
-    CalMv::Value(Millivolt(cal_millivolts(atten)))
+    Voltage::Value(Millivolt(cal_millivolts(atten)))
 }

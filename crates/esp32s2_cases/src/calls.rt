@@ -1,12 +1,9 @@
 // data/calls: calls on dumps with their maps, and their answers.
 use esp32s2::code;
-use esp32s2::code::Code;
 use esp32s2::encryption;
 use esp32s2::encryption::FlashEncryption;
 use esp32s2::reading;
-use esp32s2::reading::Reading;
 use esp32s2::reference;
-use esp32s2::reference::CalMv;
 use esp32s2::tag::RtcCalibParam;
 use esp32s2::version;
 use esp32s2::version::Version;
@@ -41,27 +38,6 @@ fn encryption_answer(got: FlashEncryption) -> Answer {
     }
 }
 
-fn reading_answer(got: Reading) -> Answer {
-    match got {
-        Reading::Value(reading) => answer::good_signed(reading),
-        Reading::Refused(why) => answer::refused(why),
-    }
-}
-
-fn code_answer(got: Code) -> Answer {
-    match got {
-        Code::Value(code) => answer::good(code as i64),
-        Code::Refused(why) => answer::refused(why),
-    }
-}
-
-fn mv_answer(got: CalMv) -> Answer {
-    match got {
-        CalMv::Value(mv) => answer::good(mv.0 as i64),
-        CalMv::Refused(why) => answer::refused(why),
-    }
-}
-
 fn param_of(number: u8) -> RtcCalibParam {
     match number {
         0 => RtcCalibParam::Vlow,
@@ -79,11 +55,11 @@ fn call_answer(dump: &[u32], map: &[u8], case: &[u8]) -> Answer {
     match bytes::number8(case, 18) {
         VERSION => version_answer(version::rtc_calib_version(dump, map)),
         FLASH_ENCRYPTION => encryption_answer(encryption::flash_encryption(dump, map)),
-        READING => reading_answer(reading::rtc_calib_reading(dump, version, unit, atten, param)),
-        SKIPPED => reading_answer(reading::rtc_calib_reading_skipped(version, unit, atten, param)),
-        INIT_CODE => code_answer(code::rtc_calib_init_code(dump, map, unit, atten)),
-        CAL_CODE => code_answer(code::rtc_calib_cal_code(dump, map, unit, atten)),
-        _ => mv_answer(reference::rtc_calib_cal_mv(unit, atten)),
+        READING => answer::reading(reading::rtc_calib_reading(dump, version, unit, atten, param)),
+        SKIPPED => answer::reading(reading::rtc_calib_reading_skipped(version, unit, atten, param)),
+        INIT_CODE => answer::code(code::rtc_calib_init_code(dump, map, unit, atten)),
+        CAL_CODE => answer::code(code::rtc_calib_cal_code(dump, map, unit, atten)),
+        _ => answer::voltage(reference::rtc_calib_cal_mv(unit, atten)),
     }
 }
 

@@ -5,6 +5,9 @@ use lib.IntN.{ℤ, pos, negℤ}
 use lib.ListN.{replicate}
 use Rattle.terms.specs.declared.chip.Chip.{Chip}
 use Rattle.terms.specs.declared.chip.Chip.the-variants.{C3, S3}
+use Rattle.terms.specs.Code.{valueOf as codeValue}
+use Rattle.terms.specs.Reading.{valueOf as readingValue}
+use Rattle.terms.specs.Voltage.{valueOf as correctedTo}
 use Rattle.efuse.specs.Field.{eight}
 use Rattle.line.specs.declared.record.LineRecord.{LineRecord}
 use Rattle.esp32.specs.Code.{vrefOf, twoPointCode, lowOf, highOf}
@@ -16,13 +19,9 @@ use Rattle.line.specs.Convert.{valueOf as millivoltsOf}
 use Rattle.esp32s2.specs.declared.tag.RtcCalibParam.{RtcCalibParam}
 use Rattle.esp32s2.specs.declared.tag.RtcCalibParam.the-variants.{Vhigh, Vinit}
 use Rattle.esp32s2.specs.Reading.{calibReadingOf}
-use Rattle.esp32s2.specs.Reading.{valueOf as readingValue}
 use Rattle.esp32c6.specs.Code.{calCodeOf}
-use Rattle.esp32c6.specs.Code.{valueOf as codeValue}
 use Rattle.esp32c6.specs.Channel.{chanCompensOf}
-use Rattle.esp32c6.specs.Channel.{valueOf as compensValue}
 use Rattle.curve.specs.Correct.{correctOf}
-use Rattle.curve.specs.Correct.{valueOf as correctedTo}
 
 -- what is asked, and document 01's answer
 pub record Case : Type 0 where
@@ -93,7 +92,7 @@ abbrev referenceCode : ℕ → ℕ → ℕ → ℕ
 referenceCode minor atten bits = codeValue (calCodeOf eight (filledWith bits) mapped-c6 minor 0 atten)
 
 abbrev compensation : ℕ → ℕ → ℤ
-compensation bits atten = compensValue (chanCompensOf eight (filledWith bits) mapped-c6 0 0 atten)
+compensation bits atten = readingValue (chanCompensOf eight (filledWith bits) mapped-c6 0 0 atten)
 
 -- the curve's answer to a line answer of 1 mV, at 11 dB
 abbrev corrected : Chip → ℕ → ℕ

@@ -1,7 +1,10 @@
 // An answer of the library beside the list's.
+use terms::code::Code;
+use terms::reading::Reading;
 use terms::refusal;
 use terms::refusal::Outcome;
 use terms::refusal::Refusal;
+use terms::voltage::Voltage;
 
 // What a call answered: document 01's number, and a value, 0 beside a refusal.
 pub struct Answer {
@@ -18,7 +21,7 @@ pub fn good(value: i64) -> Answer {
 }
 
 // The same of one that may be below 0.
-pub fn good_signed(value: i32) -> Answer {
+fn good_signed(value: i32) -> Answer {
     good(value as i64)
 }
 
@@ -27,6 +30,28 @@ pub fn refused(why: Refusal) -> Answer {
     Answer {
         number: why.number,
         value: 0,
+    }
+}
+
+// What a call answered that gives a voltage, a code or a reading.
+pub fn voltage(got: Voltage) -> Answer {
+    match got {
+        Voltage::Value(mv) => good(mv.0 as i64),
+        Voltage::Refused(why) => refused(why),
+    }
+}
+
+pub fn code(got: Code) -> Answer {
+    match got {
+        Code::Value(code) => good(code as i64),
+        Code::Refused(why) => refused(why),
+    }
+}
+
+pub fn reading(got: Reading) -> Answer {
+    match got {
+        Reading::Value(value) => good_signed(value),
+        Reading::Refused(why) => refused(why),
     }
 }
 

@@ -3,6 +3,7 @@ use mathlib.Core.Path.{sym, _∙_}
 use Rattle.terms.specs.OneAnswer.{OneAnswer}
 use Rattle.terms.proofs.bytes.u16_of.Reads as u16-of
 use Rattle.terms.proofs.bytes.u32_of.Reads as u32-of
+use Rattle.terms.proofs.chip.numbered.Reads as numbered
 use Rattle.terms.proofs.c6_version.rtc_calib_version.Reads as rtc-calib-version
 use Rattle.terms.proofs.refusal.outcome_of.Reads as outcome-of
 use Rattle.terms.proofs.refusal.raw_refusal.Reads as raw-refusal
@@ -25,3 +26,6 @@ unit-refusal-one κs a z z′ e e′ p q = p ∙ sym q
 
 pub raw-refusal-one : OneAnswer (λ κs z e. z) raw-refusal.Post
 raw-refusal-one κs a z z′ e e′ p q = p ∙ sym q
+
+pub numbered-one : OneAnswer (λ κs z e. z) numbered.Post
+numbered-one κs a z z′ e e′ p q = p ∙ sym q

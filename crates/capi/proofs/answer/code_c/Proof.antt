@@ -1,13 +1,25 @@
--- `capi::answer::code_c` meets its contract: its refusal is the one with that number. Assumes nothing.
+-- `capi::answer::code_c` meets its contract: in each arm the case is known. Assumes nothing.
 use borrow.Author.Needs.{needs}
 use Rattle.capi.proofs.answer.code_c.Statement.{statement}
 use Rattle.capi.proofs.answer.code_c.Tie as tie
 
-refusal-c-requires : tie.Need-refusal-c-requires
-refusal-c-requires c κs = search needs
+enum-known-answer : tie.Need-enum-known-answer
+enum-known-answer c = search needs
+
+with-code-requires : tie.Need-with-code-requires
+with-code-requires c κs = search needs
+
+enum-known-answer-2 : tie.Need-enum-known-answer-2
+enum-known-answer-2 c = search needs
+
+with-code-requires-2 : tie.Need-with-code-requires-2
+with-code-requires-2 c κs = search needs
 
 returns : tie.Need-returns
-returns c = rw (c .refusal-c .ensures)
+returns c = rw (c .before .before .answer .given .1) (c .with-code .ensures)
+
+returns-2 : tie.Need-returns-2
+returns-2 c = rw (c .before .before .answer2 .given .1) (c .with-code2 .ensures)
 
 pub code-c-spec : {M : Type 1} → statement M
-code-c-spec = tie.close (tie.spec refusal-c-requires returns)
+code-c-spec = tie.close (tie.spec enum-known-answer with-code-requires enum-known-answer-2 with-code-requires-2 returns returns-2)

@@ -6,20 +6,20 @@ use Rattle.capi.proofs.answer.converted_c.Tie as tie
 enum-known-converted : tie.Need-enum-known-converted
 enum-known-converted c = search needs
 
-voltage-c-requires : tie.Need-voltage-c-requires
-voltage-c-requires c κs = search needs
+with-voltage-requires : tie.Need-with-voltage-requires
+with-voltage-requires c κs = search needs
 
 enum-known-converted-2 : tie.Need-enum-known-converted-2
 enum-known-converted-2 c = search needs
 
-voltage-c-requires-2 : tie.Need-voltage-c-requires-2
-voltage-c-requires-2 c κs = search needs
+with-voltage-requires-2 : tie.Need-with-voltage-requires-2
+with-voltage-requires-2 c κs = search needs
 
 returns : tie.Need-returns
-returns c = rw (c .before .before .converted .given .1) (c .voltage-c .ensures)
+returns c = rw (c .before .before .converted .given .1) (c .with-voltage .ensures)
 
 returns-2 : tie.Need-returns-2
-returns-2 c = rw (c .before .before .converted2 .given .1) (c .voltage-c2 .ensures)
+returns-2 c = rw (c .before .before .converted2 .given .1) (c .with-voltage2 .ensures)
 
 pub converted-c-spec : {M : Type 1} → statement M
-converted-c-spec = tie.close (tie.spec enum-known-converted voltage-c-requires enum-known-converted-2 voltage-c-requires-2 returns returns-2)
+converted-c-spec = tie.close (tie.spec enum-known-converted with-voltage-requires enum-known-converted-2 with-voltage-requires-2 returns returns-2)

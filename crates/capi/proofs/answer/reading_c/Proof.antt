@@ -1,15 +1,29 @@
--- `capi::answer::reading_c` meets its contract: its refusal is the one with that number. Assumes nothing.
+-- `capi::answer::reading_c` meets its contract: in each arm the case is known, and a value that fits 32 bits is what they
+-- say. Assumes nothing.
+use mathlib.Core.Path.{_∙_}
 use mir.Syntax.{w32}
 use mir.ValLaws.{toZ-ofZ}
-use borrow.Author.Needs.{needs}
+use borrow.Author.Needs.{needs, sfits-of}
 use Rattle.capi.proofs.answer.reading_c.Statement.{statement}
 use Rattle.capi.proofs.answer.reading_c.Tie as tie
 
-refusal-c-requires : tie.Need-refusal-c-requires
-refusal-c-requires c κs = search needs
+enum-known-answer : tie.Need-enum-known-answer
+enum-known-answer c = search needs
+
+with-reading-requires : tie.Need-with-reading-requires
+with-reading-requires c κs = search needs
+
+enum-known-answer-2 : tie.Need-enum-known-answer-2
+enum-known-answer-2 c = search needs
+
+with-reading-requires-2 : tie.Need-with-reading-requires-2
+with-reading-requires-2 c κs = search needs
 
 returns : tie.Need-returns
-returns c = rw (c .refusal-c .ensures, toZ-ofZ w32 _ (c .before .fits .value))
+returns c = rw (c .before .before .answer .given .1) (c .with-reading .ensures ∙ rw (toZ-ofZ w32 _ (sfits-of (c .before .known-told .given .0 .1))))
+
+returns-2 : tie.Need-returns-2
+returns-2 c = rw (c .before .before .answer2 .given .1) (c .with-reading2 .ensures)
 
 pub reading-c-spec : {M : Type 1} → statement M
-reading-c-spec = tie.close (tie.spec refusal-c-requires returns)
+reading-c-spec = tie.close (tie.spec enum-known-answer with-reading-requires enum-known-answer-2 with-reading-requires-2 returns returns-2)

@@ -7,11 +7,11 @@ use Rattle.capi_c6.proofs.code.skv_c6_cal_code.Tie as tie
 rtc-calib-cal-code-requires : tie.Need-rtc-calib-cal-code-requires
 rtc-calib-cal-code-requires c κs = search needs
 
-c6-code-c-requires : tie.Need-c6-code-c-requires
-c6-code-c-requires c κs = search needs
+code-c-requires : tie.Need-code-c-requires
+code-c-requires c κs = search needs
 
 returns : tie.Need-returns
-returns c = c .c6-code-c .ensures ∙ rw (c .before .rtc-calib-cal-code .ensures)
+returns c = c .code-c .ensures ∙ rw (c .before .rtc-calib-cal-code .ensures)
 
 pub skv-c6-cal-code-spec : {M : Type 1} → statement M
-skv-c6-cal-code-spec = tie.close (tie.spec rtc-calib-cal-code-requires c6-code-c-requires returns)
+skv-c6-cal-code-spec = tie.close (tie.spec rtc-calib-cal-code-requires code-c-requires returns)

@@ -7,11 +7,11 @@ use Rattle.capi_c6.proofs.code.skv_c6_init_code.Tie as tie
 rtc-calib-init-code-requires : tie.Need-rtc-calib-init-code-requires
 rtc-calib-init-code-requires c κs = search needs
 
-c6-code-c-requires : tie.Need-c6-code-c-requires
-c6-code-c-requires c κs = search needs
+code-c-requires : tie.Need-code-c-requires
+code-c-requires c κs = search needs
 
 returns : tie.Need-returns
-returns c = c .c6-code-c .ensures ∙ rw (c .before .rtc-calib-init-code .ensures)
+returns c = c .code-c .ensures ∙ rw (c .before .rtc-calib-init-code .ensures)
 
 pub skv-c6-init-code-spec : {M : Type 1} → statement M
-skv-c6-init-code-spec = tie.close (tie.spec rtc-calib-init-code-requires c6-code-c-requires returns)
+skv-c6-init-code-spec = tie.close (tie.spec rtc-calib-init-code-requires code-c-requires returns)

@@ -4,17 +4,17 @@ use borrow.Author.Needs.{needs}
 use Rattle.capi_curve.proofs.correct.skv_correct.Statement.{statement}
 use Rattle.capi_curve.proofs.correct.skv_correct.Tie as tie
 
-chip-from-requires : tie.Need-chip-from-requires
-chip-from-requires c κs = search needs
+numbered-requires : tie.Need-numbered-requires
+numbered-requires c κs = search needs
 
 correct-requires : tie.Need-correct-requires
 correct-requires c κs = search needs
 
-corrected-c-requires : tie.Need-corrected-c-requires
-corrected-c-requires c κs = search needs
+voltage-c-requires : tie.Need-voltage-c-requires
+voltage-c-requires c κs = search needs
 
 returns : tie.Need-returns
-returns c = c .corrected-c .ensures ∙ rw (c .before .correct .ensures, c .before .before .chip-from .ensures)
+returns c = c .voltage-c .ensures ∙ rw (c .before .correct .ensures, c .before .before .numbered .ensures)
 
 pub skv-correct-spec : {M : Type 1} → statement M
-skv-correct-spec = tie.close (tie.spec chip-from-requires correct-requires corrected-c-requires returns)
+skv-correct-spec = tie.close (tie.spec numbered-requires correct-requires voltage-c-requires returns)

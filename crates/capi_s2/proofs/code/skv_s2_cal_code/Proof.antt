@@ -7,11 +7,11 @@ use Rattle.capi_s2.proofs.code.skv_s2_cal_code.Tie as tie
 rtc-calib-cal-code-requires : tie.Need-rtc-calib-cal-code-requires
 rtc-calib-cal-code-requires c κs = search needs
 
-s2-code-c-requires : tie.Need-s2-code-c-requires
-s2-code-c-requires c κs = search needs
+code-c-requires : tie.Need-code-c-requires
+code-c-requires c κs = search needs
 
 returns : tie.Need-returns
-returns c = c .s2-code-c .ensures ∙ rw (c .before .rtc-calib-cal-code .ensures)
+returns c = c .code-c .ensures ∙ rw (c .before .rtc-calib-cal-code .ensures)
 
 pub skv-s2-cal-code-spec : {M : Type 1} → statement M
-skv-s2-cal-code-spec = tie.close (tie.spec rtc-calib-cal-code-requires s2-code-c-requires returns)
+skv-s2-cal-code-spec = tie.close (tie.spec rtc-calib-cal-code-requires code-c-requires returns)

@@ -7,11 +7,11 @@ use Rattle.capi_s2.proofs.reading.skv_s2_reading_vlow.Tie as tie
 rtc-calib-reading-requires : tie.Need-rtc-calib-reading-requires
 rtc-calib-reading-requires c κs = search needs
 
-s2-reading-c-requires : tie.Need-s2-reading-c-requires
-s2-reading-c-requires c κs = search needs
+reading-c-requires : tie.Need-reading-c-requires
+reading-c-requires c κs = search needs
 
 returns : tie.Need-returns
-returns c = c .s2-reading-c .ensures ∙ rw (c .before .rtc-calib-reading .ensures)
+returns c = c .reading-c .ensures ∙ rw (c .before .rtc-calib-reading .ensures)
 
 pub skv-s2-reading-vlow-spec : {M : Type 1} → statement M
-skv-s2-reading-vlow-spec = tie.close (tie.spec rtc-calib-reading-requires s2-reading-c-requires returns)
+skv-s2-reading-vlow-spec = tie.close (tie.spec rtc-calib-reading-requires reading-c-requires returns)

@@ -7,11 +7,11 @@ use Rattle.capi_s2.proofs.reading.skv_s2_skipped_vhigh.Tie as tie
 rtc-calib-reading-skipped-requires : tie.Need-rtc-calib-reading-skipped-requires
 rtc-calib-reading-skipped-requires c κs = search needs
 
-s2-reading-c-requires : tie.Need-s2-reading-c-requires
-s2-reading-c-requires c κs = search needs
+reading-c-requires : tie.Need-reading-c-requires
+reading-c-requires c κs = search needs
 
 returns : tie.Need-returns
-returns c = c .s2-reading-c .ensures ∙ rw (c .before .rtc-calib-reading-skipped .ensures)
+returns c = c .reading-c .ensures ∙ rw (c .before .rtc-calib-reading-skipped .ensures)
 
 pub skv-s2-skipped-vhigh-spec : {M : Type 1} → statement M
-skv-s2-skipped-vhigh-spec = tie.close (tie.spec rtc-calib-reading-skipped-requires s2-reading-c-requires returns)
+skv-s2-skipped-vhigh-spec = tie.close (tie.spec rtc-calib-reading-skipped-requires reading-c-requires returns)

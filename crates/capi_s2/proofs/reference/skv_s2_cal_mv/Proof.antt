@@ -7,11 +7,11 @@ use Rattle.capi_s2.proofs.reference.skv_s2_cal_mv.Tie as tie
 rtc-calib-cal-mv-requires : tie.Need-rtc-calib-cal-mv-requires
 rtc-calib-cal-mv-requires c κs = search needs
 
-s2-cal-mv-c-requires : tie.Need-s2-cal-mv-c-requires
-s2-cal-mv-c-requires c κs = search needs
+voltage-c-requires : tie.Need-voltage-c-requires
+voltage-c-requires c κs = search needs
 
 returns : tie.Need-returns
-returns c = c .s2-cal-mv-c .ensures ∙ rw (c .before .rtc-calib-cal-mv .ensures)
+returns c = c .voltage-c .ensures ∙ rw (c .before .rtc-calib-cal-mv .ensures)
 
 pub skv-s2-cal-mv-spec : {M : Type 1} → statement M
-skv-s2-cal-mv-spec = tie.close (tie.spec rtc-calib-cal-mv-requires s2-cal-mv-c-requires returns)
+skv-s2-cal-mv-spec = tie.close (tie.spec rtc-calib-cal-mv-requires voltage-c-requires returns)

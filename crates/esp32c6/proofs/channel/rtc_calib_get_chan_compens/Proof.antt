@@ -15,7 +15,7 @@ use Rattle.maps.specs.Input.{fieldsRefusal}
 use Rattle.maps.specs.Value.{valueById}
 use Rattle.maps.proofs.Inputs.{decoding-good}
 use Rattle.maps.proofs.Values.{value-is}
-use Rattle.esp32c6.specs.declared.channel.Compens.the-variants.{Value, Refused}
+use Rattle.terms.specs.declared.reading.Reading.the-variants.{Value, Refused}
 use Rattle.esp32c6.specs.Channel.{compensOf, chanCompensOf}
 use Rattle.esp32c6.proofs.Fields.{channel-fits}
 use Rattle.esp32c6.proofs.channel.rtc_calib_get_chan_compens.Statement.{statement}

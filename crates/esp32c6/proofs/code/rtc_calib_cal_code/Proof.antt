@@ -12,7 +12,7 @@ use Rattle.efuse.specs.Field.{eight}
 use Rattle.maps.specs.Input.{fieldsRefusal}
 use Rattle.maps.specs.Value.{valueById}
 use Rattle.maps.proofs.Values.{value-is}
-use Rattle.esp32c6.specs.declared.code.Code.the-variants.{Value, Refused}
+use Rattle.terms.specs.declared.code.Code.the-variants.{Value, Refused}
 use Rattle.esp32c6.specs.Code.{calCode, calCodeOf}
 use Rattle.esp32c6.proofs.Codes.{code-good, offset-range}
 use Rattle.esp32c6.proofs.Fields.{cal-fits}

@@ -11,7 +11,7 @@ use Rattle.efuse.specs.Field.{eight}
 use Rattle.maps.specs.Input.{fieldsRefusal}
 use Rattle.maps.specs.Value.{valueById}
 use Rattle.maps.proofs.Values.{value-is}
-use Rattle.esp32c6.specs.declared.code.Code.the-variants.{Value, Refused}
+use Rattle.terms.specs.declared.code.Code.the-variants.{Value, Refused}
 use Rattle.esp32c6.specs.Code.{initCodeOf}
 use Rattle.esp32c6.proofs.Codes.{code-good}
 use Rattle.esp32c6.proofs.Fields.{init-fits}

@@ -3,7 +3,7 @@ use mathlib.Core.Path.{sym, _∙_, ap}
 use lib.IntN.{ℤ, natAbs}
 use borrow.Author.Needs.{needs}
 use Rattle.terms.proofs.Refusals.{answered-good, answered-refused}
-use Rattle.esp32s2.specs.declared.code.Code.the-variants.{Value, Refused}
+use Rattle.terms.specs.declared.code.Code.the-variants.{Value, Refused}
 use Rattle.esp32s2.specs.Code.{codeOf}
 use Rattle.esp32s2.proofs.Codes.{code-good}
 use Rattle.esp32s2.proofs.code.code_of.Statement.{statement}

@@ -5,7 +5,7 @@ use mir.Syntax.{w32}
 use mir.ValLaws.{toZ-ofZ}
 use borrow.Author.Needs.{needs, sfits-of}
 use Rattle.terms.proofs.Refusals.{answered-good, answered-refused}
-use Rattle.esp32s2.specs.declared.reading.Reading.the-variants.{Value, Refused}
+use Rattle.terms.specs.declared.reading.Reading.the-variants.{Value, Refused}
 use Rattle.esp32s2.specs.Reading.{readingOf, calibReadingOf}
 use Rattle.esp32s2.proofs.Readings.{reading-good}
 use Rattle.esp32s2.proofs.Tags.{tag-in-table}

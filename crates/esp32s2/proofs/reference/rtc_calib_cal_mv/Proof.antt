@@ -2,7 +2,7 @@
 use mathlib.Core.Path.{sym, _∙_}
 use borrow.Author.Needs.{needs}
 use Rattle.terms.proofs.Refusals.{answered-good, answered-refused, unit-inside}
-use Rattle.esp32s2.specs.declared.reference.CalMv.the-variants.{Refused}
+use Rattle.terms.specs.declared.voltage.Voltage.the-variants.{Refused}
 use Rattle.esp32s2.specs.Reference.{calMvOf}
 use Rattle.esp32s2.proofs.reference.rtc_calib_cal_mv.Statement.{statement}
 use Rattle.esp32s2.proofs.reference.rtc_calib_cal_mv.Tie as tie

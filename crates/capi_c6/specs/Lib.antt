@@ -1,3 +1,0 @@
-pub mod Channel
-pub mod Code
-pub mod Reference
