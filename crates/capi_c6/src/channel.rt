@@ -3,7 +3,7 @@ use capi::answer::SkvReading;
 use capi::answer::reading_c;
 use esp32c6::channel;
 ghost use mathlib.Core.Path.{_≡_};
-ghost use Rattle.efuse.specs.Field.{eight};
+ghost use Rattle.dumps.specs.Dump.{eight};
 ghost use Rattle.esp32c6.specs.Channel.{chanCompensOf};
 ghost use Rattle.capi.specs.Answer.{readingC};
 

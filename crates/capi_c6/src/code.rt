@@ -3,7 +3,7 @@ use capi::answer::SkvCode;
 use capi::answer::code_c;
 use esp32c6::code;
 ghost use mathlib.Core.Path.{_≡_};
-ghost use Rattle.efuse.specs.Field.{eight};
+ghost use Rattle.dumps.specs.Dump.{eight};
 ghost use Rattle.esp32c6.specs.Code.{initCodeOf, calCodeOf};
 ghost use Rattle.capi.specs.Answer.{codeC};
 

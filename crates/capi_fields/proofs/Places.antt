@@ -2,8 +2,8 @@
 use mathlib.Core.Path.{_≡_, sym, _∙_, ap}
 use Prim.Native.Nat.{ℕ, _*_}
 use Rattle.terms.proofs.Refusals.{byNumber-good, byNumber-refused}
-use Rattle.efuse.specs.Field.{eight}
-use Rattle.efuse.specs.View.{Lent, viewRefusal}
+use Rattle.dumps.specs.Dump.{eight}
+use Rattle.dumps.specs.View.{Lent, viewRefusal}
 use Rattle.capi_fields.specs.View.{placeC, viewC}
 
 module _ (field reference : Lent) (board block : ℕ) where

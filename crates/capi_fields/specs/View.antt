@@ -1,7 +1,7 @@
 -- The session view, as C is given it.
 use Prim.Native.Nat.{ℕ, _*_}
 use Rattle.terms.specs.Refuse.{byNumber}
-use Rattle.efuse.specs.View.{Lent, viewRefusal}
+use Rattle.dumps.specs.View.{Lent, viewRefusal}
 use Rattle.capi_fields.specs.declared.view.SkvView.{SkvView}
 use Rattle.capi.specs.Answer.{refusalC}
 

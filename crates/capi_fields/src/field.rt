@@ -9,7 +9,8 @@ use efuse::field::Read;
 use terms::refusal;
 ghost use mathlib.Core.Path.{_≡_};
 ghost use Rattle.terms.specs.Refuse.{outcomeOf};
-ghost use Rattle.efuse.specs.Field.{eight, readRefusal, readOf, bytesRead};
+ghost use Rattle.dumps.specs.Dump.{eight};
+ghost use Rattle.efuse.specs.Field.{readRefusal, readOf, bytesRead};
 ghost use Rattle.capi.specs.Answer.{outcomeC};
 ghost use Rattle.capi_fields.specs.Field.{fieldFrom, readC};
 

@@ -6,7 +6,7 @@ use maps::map;
 use terms::chip::MapChip;
 use terms::refusal;
 ghost use mathlib.Core.Path.{_≡_};
-ghost use Rattle.efuse.specs.Field.{eight};
+ghost use Rattle.dumps.specs.Dump.{eight};
 ghost use Rattle.capi_fields.specs.Map.{mapC};
 
 // Good where the map is its chip's. Refusals 2, then records first to last with 3, 4, 5, 6 within each. No map is that of a chip

@@ -1,11 +1,11 @@
 // The session view.
 use capi::answer::SkvRefusal;
 use capi::answer::refusal_c;
-use efuse::view;
+use dumps::view;
 use terms::refusal;
 ghost use mathlib.Core.Path.{_≡_};
-ghost use Rattle.efuse.specs.Field.{eight};
-ghost use Rattle.efuse.specs.View.{boardDump, partOf, viewOf};
+ghost use Rattle.dumps.specs.Dump.{eight};
+ghost use Rattle.dumps.specs.View.{boardDump, partOf, viewOf};
 ghost use Rattle.capi_fields.specs.View.{viewC};
 
 const BLOCK_WORDS: u32 = 8;

@@ -8,7 +8,7 @@ use esp32::decode;
 use esp32::decode::Decoded;
 use terms::refusal;
 ghost use mathlib.Core.Path.{_≡_};
-ghost use Rattle.efuse.specs.Field.{eight};
+ghost use Rattle.dumps.specs.Dump.{eight};
 ghost use Rattle.esp32.specs.Decode.{decodeOf};
 ghost use Rattle.capi_line.specs.Decode.{decodedC};
 

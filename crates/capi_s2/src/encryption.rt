@@ -6,7 +6,7 @@ use esp32s2::encryption;
 use esp32s2::encryption::FlashEncryption;
 use terms::refusal;
 ghost use mathlib.Core.Path.{_≡_};
-ghost use Rattle.efuse.specs.Field.{eight};
+ghost use Rattle.dumps.specs.Dump.{eight};
 ghost use Rattle.esp32s2.specs.Encryption.{flashEncryptionOf};
 ghost use Rattle.capi_s2.specs.Encryption.{flashEncryptionC};
 

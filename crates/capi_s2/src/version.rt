@@ -5,7 +5,7 @@ use esp32s2::version;
 use esp32s2::version::Version;
 use terms::refusal;
 ghost use mathlib.Core.Path.{_≡_};
-ghost use Rattle.efuse.specs.Field.{eight};
+ghost use Rattle.dumps.specs.Dump.{eight};
 ghost use Rattle.esp32s2.specs.Version.{calibVersionOf};
 ghost use Rattle.capi_s2.specs.Version.{versionC};
 

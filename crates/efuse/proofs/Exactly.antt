@@ -1,38 +1,19 @@
--- Each number of a dump, of field reading and of the view is given exactly when: each case gives its number by the laws of the refusals,
+-- Each number of field reading is given exactly when: each case gives its number by the laws of the refusals,
 -- and the tests leave no other case. Assumes nothing.
 use mathlib.Core.Path.{_≡_}
 use mathlib.Core.Logic.{inl, inr}
 use mathlib.Core.List.{List}
 use Prim.Native.Nat.{ℕ, _+_, _*_}
-use lib.ListN.{length}
-use denote.Ref.{now}
-use borrow.Author.Tests.{ne-eqb, lt-ltb, le-ltb}
+use borrow.Author.Tests.{lt-ltb, le-ltb}
 use Rattle.terms.specs.Exactly.{Exactly}
 use Rattle.terms.proofs.Exactly.{Some, exactly, case, by-first}
-use Rattle.terms.proofs.Order.{either, equal-or}
+use Rattle.terms.proofs.Order.{either}
 use Rattle.terms.proofs.Refusals.{orElse-given}
+use Rattle.dumps.proofs.Exactly.{dump-exactly}
 use Rattle.efuse.specs.declared.field.EfuseField.{EfuseField}
-use Rattle.efuse.specs.Dump.{dumpRefusal}
 use Rattle.efuse.specs.Field.{placeRefusal, readRefusal}
-use Rattle.efuse.specs.View.{Lent, boardDump, blockRefusal, viewRefusal}
-use Rattle.efuse.specs.When.{DumpWhen, bad-dump, good-dump}
 use Rattle.efuse.specs.When.{PlaceWhen, bad-block, bad-bits, good-place, ReadWhen, read-dump, read-place}
-use Rattle.efuse.specs.When.{ViewWhen, view-board, view-dump, view-block, good-view}
-use Rattle.efuse.proofs.Dumps.{whole-dump}
 use Rattle.efuse.proofs.Places.{inside-place}
-
--- a dump
-module _ (dump : List ℕ) where
-  dump-gives : (n : ℕ) → DumpWhen dump n → dumpRefusal dump ≡ n
-  unfolding dumpRefusal
-  dump-gives _ (bad-dump d) = simp (ne-eqb _ _ d)
-  dump-gives _ (good-dump d) = whole-dump dump d
-
-  dump-some : Some (DumpWhen dump)
-  dump-some = equal-or (length dump) 88 (λ d. (0, good-dump d)) (λ d. (1, bad-dump d))
-
-  pub dump-exactly : Exactly (dumpRefusal dump) (DumpWhen dump)
-  dump-exactly = exactly dump-gives dump-some
 
 module _ (words : ℕ → ℕ) where
   -- a field's place
@@ -74,27 +55,3 @@ module _ (words : ℕ → ℕ) where
 
       pub read-exactly : Exactly (readRefusal words dump f) (ReadWhen words dump f)
       read-exactly = exactly read-gives read-some
-
--- a view
-module _ (field reference : Lent) (board block : ℕ) where
-  abbrev chosen : Exactly (dumpRefusal (now (boardDump field reference board))) (DumpWhen (now (boardDump field reference board)))
-  chosen = dump-exactly (now (boardDump field reference board))
-
-  view-gives : (n : ℕ) → ViewWhen field reference board block n → viewRefusal field reference board block ≡ n
-  unfolding viewRefusal blockRefusal
-  view-gives _ (view-board b) = simp (lt-ltb _ _ b)
-  view-gives n (view-dump b d some) = rw (le-ltb _ _ b) (orElse-given _ _ (chosen n .1 d) some)
-  view-gives _ (view-block b d h) = rw (le-ltb _ _ b, chosen 0 .1 d, lt-ltb _ _ h)
-  view-gives _ (good-view b d h) = rw (le-ltb _ _ b, chosen 0 .1 d, le-ltb _ _ h)
-
-  view-some : Some (ViewWhen field reference board block)
-  view-some =
-      either board 1
-      (λ b.
-      by-first chosen
-      (λ d. either block 10 (λ h. (0, good-view b d h)) (λ h. (4, view-block b d h)))
-      (λ n d some. (n, view-dump b d some)))
-      (λ b. (15, view-board b))
-
-  pub view-exactly : Exactly (viewRefusal field reference board block) (ViewWhen field reference board block)
-  view-exactly = exactly view-gives view-some

@@ -13,7 +13,7 @@ use terms::refusal::Refusal;
 ghost use mathlib.Core.Path.{_≡_};
 ghost use Prim.Native.Nat.{_<_};
 ghost use Rattle.terms.specs.declared.chip.MapChip.the-variants.{Esp32};
-ghost use Rattle.efuse.specs.Field.{eight};
+ghost use Rattle.dumps.specs.Dump.{eight};
 ghost use Rattle.maps.specs.Input.{fieldsRefusal};
 ghost use Rattle.esp32.specs.Decode.{sourceOf, foundOf, recordFrom, decodeRefusal, numberOf, decodeOf};
 

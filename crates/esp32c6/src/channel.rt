@@ -9,7 +9,7 @@ use terms::refusal;
 use terms::refusal::Refusal;
 ghost use mathlib.Core.Path.{_≡_};
 ghost use Prim.Native.Nat.{_≤_, _<_, min};
-ghost use Rattle.efuse.specs.Field.{eight};
+ghost use Rattle.dumps.specs.Dump.{eight};
 ghost use Rattle.esp32c6.specs.Channel.{compensOf, chanCompensOf};
 
 const LAST_CHANNEL: u8 = 6;

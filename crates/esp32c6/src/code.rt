@@ -13,7 +13,7 @@ ghost use mathlib.Core.Path.{_≡_};
 ghost use Prim.Native.Nat.{_≤_, _<_};
 ghost use lib.IntN.{pos, _+ℤ_};
 ghost use Rattle.terms.specs.Sign.{signMagnitude};
-ghost use Rattle.efuse.specs.Field.{eight};
+ghost use Rattle.dumps.specs.Dump.{eight};
 ghost use Rattle.esp32c6.specs.Code.{versionRefusal, codeRefusal, initCodeOf, offsetOf, calCodeOf};
 
 const INIT_CODE_BASE: u16 = 1600;

@@ -7,7 +7,7 @@ use Rattle.terms.specs.Exactly.{Exactly}
 use Rattle.terms.proofs.Exactly.{Some, exactly, case, by-first, unit-exactly}
 use Rattle.terms.proofs.Order.{equal-or}
 use Rattle.terms.proofs.Refusals.{orElse-given}
-use Rattle.efuse.proofs.Exactly.{dump-exactly}
+use Rattle.dumps.proofs.Exactly.{dump-exactly}
 use Rattle.maps.specs.Input.{decodingRefusal}
 use Rattle.maps.specs.When.{DecodingWhen}
 use Rattle.maps.proofs.Exactly.{decoding-exactly}

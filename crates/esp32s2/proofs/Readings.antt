@@ -4,8 +4,8 @@ use mathlib.Core.List.{List}
 use Prim.Native.Nat.{ℕ, _≤_}
 use lib.ListN.{length}
 use Rattle.terms.proofs.Refusals.{orElse-none, unit-inside}
-use Rattle.efuse.specs.Dump.{dumpRefusal}
-use Rattle.efuse.proofs.Dumps.{dump-whole}
+use Rattle.dumps.specs.Dump.{dumpRefusal}
+use Rattle.dumps.proofs.Dumps.{dump-whole}
 use Rattle.esp32s2.specs.Reading.{readingRefusal}
 
 pub reading-good : (dump : List ℕ) (unit atten : ℕ) → readingRefusal dump unit atten ≡ 0

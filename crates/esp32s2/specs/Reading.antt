@@ -7,7 +7,7 @@ use lib.IntN.{ℤ, pos, _+ℤ_, _*ℤ_}
 use lib.Dec.{eqb}
 use Rattle.terms.specs.Refuse.{orElse, unitRefusal, answered}
 use Rattle.terms.specs.Sign.{signMagnitude}
-use Rattle.efuse.specs.Dump.{dumpRefusal}
+use Rattle.dumps.specs.Dump.{dumpRefusal}
 use Rattle.efuse.specs.Field.{bitsOf}
 use Rattle.esp32s2.specs.declared.table.RtcCalibEntry.{RtcCalibEntry}
 use Rattle.esp32s2.specs.declared.tag.RtcCalibParam.{RtcCalibParam}

@@ -6,7 +6,7 @@ use mathlib.Core.List.{List}
 use Prim.Native.Nat.{ℕ}
 use Rattle.terms.specs.declared.chip.MapChip.the-variants.{S2}
 use Rattle.terms.specs.When.{UnitWhen}
-use Rattle.efuse.specs.When.{DumpWhen}
+use Rattle.dumps.specs.When.{DumpWhen}
 use Rattle.maps.specs.When.{DecodingWhen}
 use Rattle.esp32s2.specs.Version.{versionOf}
 

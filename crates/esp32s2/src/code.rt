@@ -14,7 +14,7 @@ ghost use mathlib.Core.Bool.{false};
 ghost use Prim.Native.Nat.{_≤_};
 ghost use lib.IntN.{pos};
 ghost use lib.ListN.{length};
-ghost use Rattle.efuse.specs.Field.{eight};
+ghost use Rattle.dumps.specs.Dump.{eight};
 ghost use Rattle.esp32s2.specs.Reading.{readingOf};
 ghost use Rattle.esp32s2.specs.Tag.{tagOf};
 ghost use Rattle.esp32s2.specs.Code.{codeRefusal, codeOf, initCodeOf, calCodeOf};

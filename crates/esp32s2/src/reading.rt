@@ -2,7 +2,7 @@
 use crate::table::entry_at;
 use crate::tag::RtcCalibParam;
 use crate::tag::rtc_calib_tag;
-use efuse::dump::dump_refusal;
+use dumps::dump::dump_refusal;
 use efuse::field::EfuseField;
 use efuse::field::Read;
 use efuse::field::read_field_u32;

@@ -5,7 +5,7 @@ use terms::chip::MapChip;
 use terms::refusal;
 use terms::refusal::Refusal;
 ghost use mathlib.Core.Path.{_≡_};
-ghost use Rattle.efuse.specs.Field.{eight};
+ghost use Rattle.dumps.specs.Dump.{eight};
 ghost use Rattle.esp32s2.specs.Version.{calibVersionOf};
 
 // Where the map has the field with id 7.

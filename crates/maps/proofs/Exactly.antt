@@ -17,7 +17,8 @@ use Rattle.terms.proofs.Order.{either, equal-or}
 use Rattle.terms.proofs.Refusals.{refuse-none, orElse-given}
 use Rattle.efuse.specs.declared.field.EfuseField.{EfuseField}
 use Rattle.efuse.specs.When.{PlaceWhen}
-use Rattle.efuse.proofs.Exactly.{dump-exactly, place-exactly}
+use Rattle.dumps.proofs.Exactly.{dump-exactly}
+use Rattle.efuse.proofs.Exactly.{place-exactly}
 use Rattle.maps.specs.Map.{recordByte, fieldOf, strayOf, idsOf, countsOf, countRefusal, mapRecordRefusal, mapRecordRefusals, mapRefusal}
 use Rattle.maps.specs.Input.{fieldsRefusal, decodingRefusal}
 use Rattle.maps.specs.When.{Shaped, MapRecordWhen, bad-shape, bad-place, bad-count, good-record}

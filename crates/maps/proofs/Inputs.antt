@@ -6,8 +6,8 @@ use lib.ListN.{length}
 use Rattle.terms.specs.declared.chip.MapChip.{MapChip}
 use Rattle.terms.specs.Refuse.{unitRefusal}
 use Rattle.terms.proofs.Refusals.{orElse-none, unit-inside}
-use Rattle.efuse.specs.Dump.{dumpRefusal}
-use Rattle.efuse.proofs.Dumps.{dump-whole}
+use Rattle.dumps.specs.Dump.{dumpRefusal}
+use Rattle.dumps.proofs.Dumps.{dump-whole}
 use Rattle.maps.specs.Map.{mapRefusal}
 use Rattle.maps.specs.Input.{fieldsRefusal, decodingRefusal}
 

@@ -4,7 +4,7 @@ use mathlib.Core.List.{List}
 use Prim.Native.Nat.{ℕ}
 use Rattle.terms.specs.declared.chip.MapChip.{MapChip}
 use Rattle.terms.specs.Refuse.{orElse, unitRefusal}
-use Rattle.efuse.specs.Dump.{dumpRefusal}
+use Rattle.dumps.specs.Dump.{dumpRefusal}
 use Rattle.maps.specs.Map.{mapRefusal}
 
 -- of a call that takes no unit and no attenuation

@@ -7,7 +7,8 @@ use Prim.Native.Nat.{ℕ, _+_, _*_, _≤_, _<_}
 use lib.ListN.{length}
 use Rattle.terms.specs.declared.chip.MapChip.{MapChip}
 use Rattle.terms.specs.When.{UnitWhen, FirstWhen}
-use Rattle.efuse.specs.When.{DumpWhen, PlaceWhen}
+use Rattle.dumps.specs.When.{DumpWhen}
+use Rattle.efuse.specs.When.{PlaceWhen}
 use Rattle.maps.specs.Map.{recordByte, fieldOf, idsOf, countsOf}
 
 -- a map record's id and zero bytes

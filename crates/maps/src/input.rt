@@ -1,11 +1,11 @@
 // What a call that goes by a map checks of its input before it reads a field, in document 01's order: 1, 7, then the map's.
 use crate::map::map_refusal;
-use efuse::dump::dump_refusal;
+use dumps::dump::dump_refusal;
 use terms::chip::MapChip;
 use terms::refusal;
 use terms::refusal::unit_refusal;
 ghost use mathlib.Core.Path.{_≡_};
-ghost use Rattle.efuse.specs.Field.{eight};
+ghost use Rattle.dumps.specs.Dump.{eight};
 ghost use Rattle.maps.specs.Input.{fieldsRefusal, decodingRefusal};
 
 // The first thing wrong with a dump and a chip's map: 1, then the map's; 0 where each of the map's fields may be read.

@@ -3,7 +3,7 @@ use crate::map::field_at;
 use efuse::field::Read;
 use efuse::field::read_field_u32;
 ghost use mathlib.Core.Path.{_≡_};
-ghost use Rattle.efuse.specs.Field.{eight};
+ghost use Rattle.dumps.specs.Dump.{eight};
 ghost use Rattle.maps.specs.Value.{recordValue};
 
 // The value of record k's field, at 32 bits. Any k of any map is answered: 0 where the field can't be read, which is never the case

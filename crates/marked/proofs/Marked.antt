@@ -3,7 +3,7 @@ use mathlib.Core.Path.{_≡_, refl}
 use mathlib.Core.List.{map, flatten}
 use Rattle.terms.specs.Refuse.{firstOf, unitRefusal}
 use Rattle.terms.specs.Sign.{signMagnitude}
-use Rattle.efuse.specs.Dump.{dumpRefusal}
+use Rattle.dumps.specs.Dump.{dumpRefusal}
 use Rattle.efuse.specs.Field.{bitsOf, placeRefusal, fieldBits}
 use Rattle.maps.specs.Map.{countRefusal, mapRecordRefusal, mapRefusal}
 use Rattle.maps.specs.Input.{decodingRefusal}

@@ -8,7 +8,7 @@ use Rattle.terms.specs.declared.chip.Chip.the-variants.{C3, S3}
 use Rattle.terms.specs.Code.{valueOf as codeValue}
 use Rattle.terms.specs.Reading.{valueOf as readingValue}
 use Rattle.terms.specs.Voltage.{valueOf as correctedTo}
-use Rattle.efuse.specs.Field.{eight}
+use Rattle.dumps.specs.Dump.{eight}
 use Rattle.line.specs.declared.record.LineRecord.{LineRecord}
 use Rattle.esp32.specs.Code.{vrefOf, twoPointCode, lowOf, highOf}
 use Rattle.esp32.specs.Characterize.{topOf}

@@ -1,5 +1,5 @@
 // Loading a dump from the bytes of its file.
-use efuse::dump::DUMP_WORDS;
+use dumps::dump::DUMP_WORDS;
 use terms::bytes::u16_of;
 use terms::bytes::u32_of;
 ghost use mathlib.Core.Path.{_≡_};

@@ -1,7 +1,7 @@
 -- `capi_fields::view::skv_view` meets its contract: what it tells is the place of the library's view. Assumes nothing.
 use mathlib.Core.Path.{sym, _∙_}
 use borrow.Author.Needs.{needs}
-use Rattle.efuse.proofs.Views.{view-part, view-none}
+use Rattle.dumps.proofs.Views.{view-part, view-none}
 use Rattle.capi_fields.proofs.Places.{place-good, place-refused}
 use Rattle.capi_fields.proofs.view.skv_view.Statement.{statement}
 use Rattle.capi_fields.proofs.view.skv_view.Tie as tie

@@ -4,7 +4,7 @@ use mathlib.Core.Path.{_≡_, sym, _∙_}
 use denote.Ref.{now}
 use borrow.Author.Needs.{needs}
 use Rattle.terms.specs.declared.chip.MapChip.the-variants.{Esp32}
-use Rattle.efuse.specs.Field.{eight}
+use Rattle.dumps.specs.Dump.{eight}
 use Rattle.maps.specs.Input.{decodingRefusal}
 use Rattle.maps.proofs.Inputs.{decoding-good}
 use Rattle.esp32.specs.Decode.{foundOf, decodedRecord, decodeRefusal}

@@ -8,7 +8,7 @@ use denote.Ref.{now}
 use borrow.Author.Needs.{needs}
 use Rattle.terms.specs.declared.chip.MapChip.the-variants.{C6}
 use Rattle.terms.proofs.Refusals.{answered-good, answered-refused}
-use Rattle.efuse.specs.Field.{eight}
+use Rattle.dumps.specs.Dump.{eight}
 use Rattle.maps.specs.Input.{fieldsRefusal}
 use Rattle.maps.specs.Value.{valueById}
 use Rattle.maps.proofs.Values.{value-is}

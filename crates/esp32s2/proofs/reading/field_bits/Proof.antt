@@ -7,7 +7,8 @@ use native.Mathlib.Omega.{arith}
 use lib.ListN.{length}
 use borrow.Author.Needs.{needs}
 use Rattle.efuse.specs.declared.field.EfuseField.{EfuseField}
-use Rattle.efuse.specs.Field.{eight, bitsOf, readRefusal, fieldBits}
+use Rattle.dumps.specs.Dump.{eight}
+use Rattle.efuse.specs.Field.{bitsOf, readRefusal, fieldBits}
 use Rattle.efuse.proofs.Places.{inside-place, read-good, read-is, read-there}
 use Rattle.esp32s2.proofs.reading.field_bits.Statement.{statement}
 use Rattle.esp32s2.proofs.reading.field_bits.Tie as tie

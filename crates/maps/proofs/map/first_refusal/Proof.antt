@@ -3,7 +3,7 @@ use mathlib.Core.Path.{sym, _∙_}
 use Prim.Native.Nat.{_-_}
 use borrow.Author.Needs.{needs}
 use Rattle.terms.proofs.Refusals.{Passed, first-start, first-pass, first-stop, first-none}
-use Rattle.efuse.specs.Field.{eight}
+use Rattle.dumps.specs.Dump.{eight}
 use Rattle.maps.specs.Map.{mapRecordRefusals}
 use Rattle.maps.proofs.map.first_refusal.Statement.{statement}
 use Rattle.maps.proofs.map.first_refusal.Tie as tie

@@ -1,7 +1,8 @@
 -- `maps::record_value` meets its contract: whichever case the reading is, its value is document 01's. Assumes nothing.
 use mathlib.Core.Path.{sym, _∙_, ap}
 use borrow.Author.Needs.{needs}
-use Rattle.efuse.specs.Field.{eight, valueOf, readOf}
+use Rattle.dumps.specs.Dump.{eight}
+use Rattle.efuse.specs.Field.{valueOf, readOf}
 use Rattle.maps.specs.Value.{recordValue}
 use Rattle.maps.proofs.value.record_value.Statement.{statement}
 use Rattle.maps.proofs.value.record_value.Tie as tie

@@ -1,7 +1,7 @@
--- `efuse::board_dump` meets its contract: the board's test picks the dump that the definition picks. Assumes nothing.
+-- `dumps::board_dump` meets its contract: the board's test picks the dump that the definition picks. Assumes nothing.
 use borrow.Author.Tests.{eq-eqb, ne-eqb}
-use Rattle.efuse.proofs.view.board_dump.Statement.{statement}
-use Rattle.efuse.proofs.view.board_dump.Tie as tie
+use Rattle.dumps.proofs.view.board_dump.Statement.{statement}
+use Rattle.dumps.proofs.view.board_dump.Tie as tie
 
 returns : tie.Need-returns
 returns c = simp (eq-eqb _ _ (c .if1 .taken))

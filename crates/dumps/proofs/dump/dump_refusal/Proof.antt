@@ -1,8 +1,8 @@
--- `efuse::dump_refusal` meets its contract: the length's test decides the definition's. Assumes nothing.
+-- `dumps::dump_refusal` meets its contract: the length's test decides the definition's. Assumes nothing.
 use borrow.Author.Tests.{eq-eqb, ne-eqb}
-use Rattle.efuse.specs.Dump.{dumpRefusal}
-use Rattle.efuse.proofs.dump.dump_refusal.Statement.{statement}
-use Rattle.efuse.proofs.dump.dump_refusal.Tie as tie
+use Rattle.dumps.specs.Dump.{dumpRefusal}
+use Rattle.dumps.proofs.dump.dump_refusal.Statement.{statement}
+use Rattle.dumps.proofs.dump.dump_refusal.Tie as tie
 
 returns : tie.Need-returns
 unfolding dumpRefusal

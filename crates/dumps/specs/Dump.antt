@@ -10,3 +10,7 @@ use Rattle.terms.specs.Refuse.{refuse}
 -- 1: the dump hasn't 88 words
 unfoldable pub dumpRefusal : List ℕ → ℕ
 dumpRefusal dump = refuse (not (eqb (length dump) 88)) 1 0
+
+-- "blocks 0 to 10, eight words each": the length of each block, which definitions below take as `words`
+abbrev pub eight : ℕ → ℕ
+eight block = 8

@@ -7,7 +7,7 @@ use lib.ListN.{length}
 use lib.Dec.{eqb}
 use borrow.Author.Tests.{eqb-true, not-false, eq-eqb}
 use Rattle.terms.proofs.Refusals.{refuse-none}
-use Rattle.efuse.specs.Dump.{dumpRefusal}
+use Rattle.dumps.specs.Dump.{dumpRefusal}
 
 module _ (dump : List ℕ) where
   pub dump-whole : dumpRefusal dump ≡ 0 → length dump ≡ 88

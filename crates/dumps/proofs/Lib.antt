@@ -1,0 +1,4 @@
+pub mod Dumps
+pub mod Exactly
+pub mod Unique
+pub mod Views

@@ -1,0 +1,3 @@
+pub mod Dump
+pub mod View
+pub mod When
