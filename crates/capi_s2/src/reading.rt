@@ -1,11 +1,11 @@
 // Readings of the S2's calibration table, a call for each parameter.
 use capi::answer::SkvReading;
 use capi::answer::reading_c;
-use esp32s2::reading;
-use esp32s2::tag::RtcCalibParam;
+use s2_readings::reading;
+use s2_readings::tag::RtcCalibParam;
 ghost use mathlib.Core.Path.{_≡_};
-ghost use Rattle.esp32s2.specs.declared.tag.RtcCalibParam.the-variants.{Vlow, Vhigh, Vinit};
-ghost use Rattle.esp32s2.specs.Reading.{calibReadingOf, skippedReadingOf};
+ghost use Rattle.s2_readings.specs.declared.tag.RtcCalibParam.the-variants.{Vlow, Vhigh, Vinit};
+ghost use Rattle.s2_readings.specs.Reading.{calibReadingOf, skippedReadingOf};
 ghost use Rattle.capi.specs.Answer.{readingC};
 
 // The low-voltage reading, of version 1; 0 where it doesn't pair with the version. Refusals 1, 7.

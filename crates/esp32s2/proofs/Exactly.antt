@@ -1,36 +1,18 @@
--- Each number of the S2's readings and codes is given exactly when. Assumes nothing.
+-- Each number of the S2's codes is given exactly when. Assumes nothing.
 use mathlib.Core.Path.{_≡_, refl, sym}
 use mathlib.Core.List.{List}
 use Prim.Native.Nat.{ℕ}
 use Rattle.terms.specs.declared.chip.MapChip.the-variants.{S2}
 use Rattle.terms.specs.Exactly.{Exactly}
-use Rattle.terms.proofs.Exactly.{Some, exactly, case, by-first, unit-exactly}
+use Rattle.terms.proofs.Exactly.{Some, exactly, by-first}
 use Rattle.terms.proofs.Order.{equal-or}
-use Rattle.terms.proofs.Refusals.{orElse-given}
-use Rattle.dumps.proofs.Exactly.{dump-exactly}
 use Rattle.maps.specs.Input.{decodingRefusal}
 use Rattle.maps.specs.When.{DecodingWhen}
 use Rattle.maps.proofs.Exactly.{decoding-exactly}
 use Rattle.esp32s2.specs.Version.{versionOf}
-use Rattle.esp32s2.specs.Reading.{readingRefusal}
 use Rattle.esp32s2.specs.Code.{codeRefusal}
-use Rattle.esp32s2.specs.When.{ReadingWhen, reading-dump, reading-unit, CodeWhen, before, bad-version, good-version}
+use Rattle.esp32s2.specs.When.{CodeWhen, before, bad-version, good-version}
 use Rattle.esp32s2.proofs.Codes.{code-decoding, code-twelve, code-given}
-
-module _ (dump : List ℕ) (unit atten : ℕ) where
-  reading-gives : (n : ℕ) → ReadingWhen dump unit atten n → readingRefusal dump unit atten ≡ n
-  unfolding readingRefusal
-  reading-gives n (reading-dump d some) = orElse-given _ _ (dump-exactly dump n .1 d) some
-  reading-gives n (reading-unit d u) = rw (dump-exactly dump 0 .1 d) (unit-exactly unit atten n .1 u)
-
-  reading-some : Some (ReadingWhen dump unit atten)
-  reading-some =
-      by-first (dump-exactly dump)
-      (λ d. (_, reading-unit d (case (unit-exactly unit atten))))
-      (λ n d some. (n, reading-dump d some))
-
-  pub reading-exactly : Exactly (readingRefusal dump unit atten) (ReadingWhen dump unit atten)
-  reading-exactly = exactly reading-gives reading-some
 
 module _ (words : ℕ → ℕ) (dump map : List ℕ) (unit atten : ℕ) where
   abbrev input : Exactly (decodingRefusal words S2 dump map unit atten) (DecodingWhen words S2 dump map unit atten)

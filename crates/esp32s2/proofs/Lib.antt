@@ -1,13 +1,7 @@
-pub mod Chains
 pub mod Codes
 pub mod Exactly
 pub mod Fields
-pub mod Fits
 pub mod Ones
 pub mod Ranges
-pub mod Readings
-pub mod Rule
 pub mod Says
-pub mod TableRule
-pub mod Tags
 pub mod Unique

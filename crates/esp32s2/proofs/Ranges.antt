@@ -1,51 +1,22 @@
--- The range of every answer that isn't refused: a reading is from 577 to 7986, or 0 where version and parameter don't pair; an initial
--- code is from 1265 to 2127, and a reference code from 4321 to 7986. Assumes nothing.
-use mathlib.Core.Path.{_≡_, refl, sym, _∙_, ap}
-use mathlib.Core.Bool.{Bool, false}
+-- The range of every code that isn't refused: an initial code is from 1265 to 2127, and a reference code from 4321 to 7986. Assumes nothing.
+use mathlib.Core.Path.{_≡_, refl, sym}
+use mathlib.Core.Bool.{false}
 use mathlib.Core.List.{List}
 use Prim.Native.Nat.{ℕ, _+_, _*_, _≤_, _<_}
 use native.Mathlib.Omega.{arith}
-use lib.IntN.{ℤ, pos, natAbs}
+use lib.IntN.{pos}
 use Rattle.terms.specs.Code.{valueOf}
 use Rattle.terms.proofs.Check.{rule}
-use Rattle.terms.proofs.Whole.{up}
-use Rattle.esp32s2.specs.declared.tag.RtcCalibParam.{RtcCalibParam}
-use Rattle.esp32s2.specs.declared.tag.RtcCalibParam.the-variants.{Vhigh, Vinit}
-use Rattle.esp32s2.specs.Table.{calibMap, entryAt, along}
-use Rattle.esp32s2.specs.Reading.{readingOf}
-use Rattle.esp32s2.specs.Tag.{byVersion, firstTag, tagOf}
+use Rattle.s2_readings.specs.declared.tag.RtcCalibParam.{RtcCalibParam}
+use Rattle.s2_readings.specs.declared.tag.RtcCalibParam.the-variants.{Vhigh, Vinit}
+use Rattle.s2_readings.specs.Table.{calibMap, entryAt, along}
+use Rattle.s2_readings.specs.Reading.{readingOf}
+use Rattle.s2_readings.specs.Tag.{byVersion, firstTag, tagOf}
+use Rattle.s2_readings.proofs.Rule.{Spread, spread}
+use Rattle.s2_readings.proofs.Ranges.{Between, by-spread}
+use Rattle.s2_readings.proofs.Tags.{tag-is}
 use Rattle.esp32s2.specs.Code.{codeRefusal, codeOf, initCodeOf, calCodeOf}
-use Rattle.esp32s2.proofs.Rule.{Spread, spread, rule-of}
-use Rattle.esp32s2.proofs.Chains.{reading-none, reading-whole, reading-range}
 use Rattle.esp32s2.proofs.Codes.{code-good}
-use Rattle.esp32s2.proofs.Tags.{tag-in-table, tag-none, tag-some, tag-is}
-
-pub record Between (low high : ℕ) (z : ℤ) : Type 0 where
-  pub whole : z ≡ pos (natAbs z)
-  pub least : low ≤ natAbs z
-  pub most : natAbs z ≤ high
-
-module _ (dump : List ℕ) (skip : Bool) (version unit atten : ℕ) (param : RtcCalibParam) (u : unit ≤ 1) (a : atten ≤ 3) where
-  abbrev tag : ℕ
-  tag = tagOf version unit atten param
-
-  -- a version and a parameter that pair, by what their chain's bases and widths say
-  by-spread : (firstTag version param ≡ 0 → ⊥) → {low high : ℕ} → Spread low high tag → Between low high (readingOf dump skip tag)
-  by-spread h s =
-      let in-table = tag-in-table version unit atten param u a in
-      let reading : ℤ = readingOf dump skip tag in
-      let whole : reading ≡ pos (up reading) = reading-whole dump skip tag in-table in
-      let same : natAbs reading ≡ up reading = ap natAbs whole in
-      let range = reading-range dump skip tag in-table (tag-some version unit atten param h) s in
-      record { whole = whole ∙ ap pos (sym same); least = omega (arith, same, range .0); most = omega (arith, same, range .1) }
-
-  pub paired-range : (firstTag version param ≡ 0 → ⊥) → Between 577 7986 (readingOf dump skip tag)
-  paired-range h =
-      by-spread h (rule-of tag (tag-some version unit atten param h) (tag-in-table version unit atten param u a) .between)
-
-  -- and that don't
-  pub unpaired : firstTag version param ≡ 0 → readingOf dump skip tag ≡ pos 0
-  unpaired e = ap (readingOf dump skip) (tag-none version unit atten param e) ∙ reading-none dump skip
 
 -- the codes: both parameters pair with version 2, and each has eight tags, which one computed test goes through
 pub init-pairs : firstTag 2 Vinit ≡ 25

@@ -1,29 +1,28 @@
 -- The number and the value of each answer are document 01's. Assumes nothing.
 use mathlib.Core.Path.{refl}
-use mathlib.Core.Bool.{true, false}
-use mathlib.Core.List.{List, []}
+use mathlib.Core.Bool.{false}
+use mathlib.Core.List.{List}
 use Prim.Native.Nat.{ℕ}
-use lib.IntN.{pos, natAbs}
+use lib.IntN.{natAbs}
 use Rattle.terms.specs.declared.chip.MapChip.the-variants.{S2}
 use Rattle.terms.specs.Refuse.{unitRefusal}
 use Rattle.terms.specs.Says.{Says}
 use Rattle.terms.specs.Code as code
-use Rattle.terms.specs.Reading as reading
 use Rattle.terms.specs.Voltage as voltage
 use Rattle.terms.proofs.Says.{Paper, says}
-use Rattle.terms.proofs.Says.{code-says as code-given, reading-says as reading-given, voltage-says}
+use Rattle.terms.proofs.Says.{code-says as code-given, voltage-says}
 use Rattle.maps.specs.Input.{fieldsRefusal}
 use Rattle.maps.specs.Value.{valueById}
 use Rattle.esp32s2.specs.declared.encryption.FlashEncryption.the-variants.{Value as Encryption, Refused as No-encryption}
 use Rattle.esp32s2.specs.declared.version.Version.the-variants.{Value as Version, Refused as No-version}
 use Rattle.esp32s2.specs.Encryption as encryption
 use Rattle.esp32s2.specs.Version as version
-use Rattle.esp32s2.specs.declared.tag.RtcCalibParam.{RtcCalibParam}
+use Rattle.s2_readings.specs.declared.tag.RtcCalibParam.{RtcCalibParam}
 use Rattle.esp32s2.specs.Code.{codeRefusal, codeOf}
 use Rattle.esp32s2.specs.Encryption.{oddOnes, flashEncryptionOf}
-use Rattle.esp32s2.specs.Reading.{readingOf, readingRefusal, calibReadingOf, skippedReadingOf}
+use Rattle.s2_readings.specs.Reading.{readingOf}
 use Rattle.esp32s2.specs.Reference.{millivoltsOf, calMvOf}
-use Rattle.esp32s2.specs.Tag.{tagOf}
+use Rattle.s2_readings.specs.Tag.{tagOf}
 use Rattle.esp32s2.specs.Version.{versionOf, calibVersionOf}
 
 version-paper : Paper version.numberOf version.valueOf 0 Version No-version
@@ -54,21 +53,6 @@ module _ (words : ℕ → ℕ) (dump map : List ℕ) where
       (natAbs (readingOf dump false (tagOf 2 unit atten param)))
   unfolding codeOf
   code-says unit atten param = code-given _ _
-
-module _ (version unit atten : ℕ) (param : RtcCalibParam) where
-  -- `rtc_calib_reading`
-  pub reading-says : (dump : List ℕ)
-      → Says reading.numberOf reading.valueOf (pos 0)
-      (calibReadingOf dump version unit atten param) (readingRefusal dump unit atten)
-      (readingOf dump false (tagOf version unit atten param))
-  unfolding calibReadingOf
-  reading-says dump = reading-given _ _
-
-  -- `rtc_calib_reading_skipped`
-  pub skipped-says : Says reading.numberOf reading.valueOf (pos 0)
-      (skippedReadingOf version unit atten param) (unitRefusal unit atten) (readingOf [] true (tagOf version unit atten param))
-  unfolding skippedReadingOf
-  skipped-says = reading-given _ _
 
 -- `rtc_calib_cal_mv`
 pub cal-mv-says : (unit atten : ℕ)

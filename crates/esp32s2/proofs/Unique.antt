@@ -3,8 +3,6 @@
 use mathlib.Core.Path.{sym, _∙_}
 use Rattle.terms.specs.OneAnswer.{OneAnswer}
 use Rattle.esp32s2.proofs.version.rtc_calib_version.Reads as rtc-calib-version
-use Rattle.esp32s2.proofs.reading.rtc_calib_reading.Reads as rtc-calib-reading
-use Rattle.esp32s2.proofs.reading.rtc_calib_reading_skipped.Reads as rtc-calib-reading-skipped
 use Rattle.esp32s2.proofs.code.rtc_calib_init_code.Reads as rtc-calib-init-code
 use Rattle.esp32s2.proofs.code.rtc_calib_cal_code.Reads as rtc-calib-cal-code
 use Rattle.esp32s2.proofs.reference.rtc_calib_cal_mv.Reads as rtc-calib-cal-mv
@@ -12,12 +10,6 @@ use Rattle.esp32s2.proofs.encryption.flash_encryption.Reads as flash-en
 
 pub rtc-calib-version-one : OneAnswer (λ κs z e. z) rtc-calib-version.Post
 rtc-calib-version-one κs a z z′ e e′ p q = p ∙ sym q
-
-pub rtc-calib-reading-one : OneAnswer (λ κs z e. z) rtc-calib-reading.Post
-rtc-calib-reading-one κs a z z′ e e′ p q = p ∙ sym q
-
-pub rtc-calib-reading-skipped-one : OneAnswer (λ κs z e. z) rtc-calib-reading-skipped.Post
-rtc-calib-reading-skipped-one κs a z z′ e e′ p q = p ∙ sym q
 
 pub rtc-calib-init-code-one : OneAnswer (λ κs z e. z) rtc-calib-init-code.Post
 rtc-calib-init-code-one κs a z z′ e e′ p q = p ∙ sym q

@@ -10,10 +10,10 @@ use Rattle.terms.specs.Refuse.{refuse, orElse, answered}
 use Rattle.maps.specs.Input.{decodingRefusal}
 use Rattle.terms.specs.declared.code.Code.{Code}
 use Rattle.terms.specs.declared.code.Code.the-variants.{Value, Refused}
-use Rattle.esp32s2.specs.declared.tag.RtcCalibParam.{RtcCalibParam}
-use Rattle.esp32s2.specs.declared.tag.RtcCalibParam.the-variants.{Vhigh, Vinit}
-use Rattle.esp32s2.specs.Reading.{readingOf}
-use Rattle.esp32s2.specs.Tag.{tagOf}
+use Rattle.s2_readings.specs.declared.tag.RtcCalibParam.{RtcCalibParam}
+use Rattle.s2_readings.specs.declared.tag.RtcCalibParam.the-variants.{Vhigh, Vinit}
+use Rattle.s2_readings.specs.Reading.{readingOf}
+use Rattle.s2_readings.specs.Tag.{tagOf}
 use Rattle.esp32s2.specs.Version.{versionOf}
 
 -- 1, 7 and those of the map

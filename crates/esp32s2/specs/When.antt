@@ -1,19 +1,12 @@
--- Document 01, "Numbers given when a call is turned down": when the S2's readings and codes give each number. The version and flash
--- encryption have maps' `FieldsWhen`; a reading with the eFuse skipped and the reference voltage have terms' `UnitWhen`.
+-- Document 01, "Numbers given when a call is turned down": when the S2's codes give each number. The version and flash encryption
+-- have maps' `FieldsWhen`; the reference voltage has terms' `UnitWhen`.
 -- A case says too that nothing before it is given; 0 is given where the call isn't turned down.
 use mathlib.Core.Path.{_≡_}
 use mathlib.Core.List.{List}
 use Prim.Native.Nat.{ℕ}
 use Rattle.terms.specs.declared.chip.MapChip.the-variants.{S2}
-use Rattle.terms.specs.When.{UnitWhen}
-use Rattle.dumps.specs.When.{DumpWhen}
 use Rattle.maps.specs.When.{DecodingWhen}
 use Rattle.esp32s2.specs.Version.{versionOf}
-
--- a reading, which takes no map: 1, then 7
-pub data ReadingWhen (dump : List ℕ) (unit atten : ℕ) : ℕ → Type 0 where
-  reading-dump : {n : ℕ} → DumpWhen dump n → (n ≡ 0 → ⊥) → ReadingWhen dump unit atten n
-  reading-unit : {n : ℕ} → DumpWhen dump 0 → UnitWhen unit atten n → ReadingWhen dump unit atten n
 
 -- a code: 1, 7 and those of the map, then 12
 -- 12: "S2 version not 2"

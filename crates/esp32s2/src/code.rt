@@ -1,12 +1,12 @@
 // The S2's initial codes and reference codes, by unit and attenuation.
-use crate::reading::rtc_calib_parsed;
-use crate::tag::RtcCalibParam;
-use crate::tag::rtc_calib_tag;
 use crate::version::BLK_VERSION_MINOR;
 use maps::input::decoding_refusal;
 use maps::value::record_value;
+use s2_readings::reading::rtc_calib_reading;
+use s2_readings::tag::RtcCalibParam;
 use terms::chip::MapChip;
 use terms::code::Code;
+use terms::reading::Reading;
 use terms::refusal;
 use terms::refusal::Refusal;
 ghost use mathlib.Core.Path.{_≡_};
@@ -15,8 +15,8 @@ ghost use Prim.Native.Nat.{_≤_};
 ghost use lib.IntN.{pos};
 ghost use lib.ListN.{length};
 ghost use Rattle.dumps.specs.Dump.{eight};
-ghost use Rattle.esp32s2.specs.Reading.{readingOf};
-ghost use Rattle.esp32s2.specs.Tag.{tagOf};
+ghost use Rattle.s2_readings.specs.Reading.{readingOf};
+ghost use Rattle.s2_readings.specs.Tag.{tagOf};
 ghost use Rattle.esp32s2.specs.Code.{codeRefusal, codeOf, initCodeOf, calCodeOf};
 
 const CODE_VERSION: u8 = 2;
@@ -40,7 +40,11 @@ fn code_at(dump: &[u32], unit: u8, atten: u8, param: RtcCalibParam) -> u16
     requires { ⌜ (length (now dump) ≡ 88) × (unit ≤ 1) × (atten ≤ 3) ⌝ }
     ensures { λ r. ⌜ pos r ≡ readingOf (now (dump .entry)) false (tagOf 2 unit atten param) ⌝ }
 {
-    rtc_calib_parsed(dump, rtc_calib_tag(CODE_VERSION, unit, atten, param), false) as u16
+    let reading = rtc_calib_reading(dump, CODE_VERSION, unit, atten, param);
+    let Reading::Value(code) = reading else {
+        return 0;
+    };
+    code as u16
 }
 
 // The code of a parameter, or its refusal.

@@ -2,14 +2,14 @@
 use esp32s2::code;
 use esp32s2::encryption;
 use esp32s2::encryption::FlashEncryption;
-use esp32s2::reading;
 use esp32s2::reference;
-use esp32s2::tag::RtcCalibParam;
 use esp32s2::version;
 use esp32s2::version::Version;
 use replay::answer;
 use replay::answer::Answer;
 use replay::bytes;
+use s2_readings::reading;
+use s2_readings::tag::RtcCalibParam;
 
 // The calls, as the list numbers them; the one that is left is `rtc_calib_cal_mv`.
 const VERSION: u8 = 0;

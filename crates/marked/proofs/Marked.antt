@@ -14,9 +14,9 @@ use Rattle.esp32.specs.Decode.{twoPointUsed, sourceOf, foundOf, decodedRecord, 
 use Rattle.line.specs.Record.{usesLookup, recordRefusal}
 use Rattle.line.specs.Lookup.{lowAt, highAt, lookupNumerator, lookupVoltage}
 use Rattle.line.specs.Convert.{lineVoltage, blendOf, beyondLine, answerAt, convertRefusal, convertOf}
-use Rattle.esp32s2.specs.Table.{calibMap, entryAt}
-use Rattle.esp32s2.specs.Tag.{byVersion, tagOf}
-use Rattle.esp32s2.specs.Reading.{termOf, within, readingOf, readingRefusal, calibReadingOf}
+use Rattle.s2_readings.specs.Table.{calibMap, entryAt}
+use Rattle.s2_readings.specs.Tag.{byVersion, tagOf}
+use Rattle.s2_readings.specs.Reading.{termOf, within, readingOf, readingRefusal, calibReadingOf}
 use Rattle.terms.specs.C6Version.{versionOf}
 use Rattle.esp32c6.specs.Code.{versionRefusal, codeRefusal, offsetOf, calCode, calCodeOf}
 use Rattle.esp32c6.specs.Channel.{compensOf, chanCompensOf}

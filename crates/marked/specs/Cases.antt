@@ -16,9 +16,9 @@ use Rattle.esp32.specs.Decode.{decodeOf}
 use Rattle.esp32.specs.Decode.{numberOf as numberDecoded, valueOf as recordDecoded}
 use Rattle.line.specs.Convert.{convertOf}
 use Rattle.line.specs.Convert.{valueOf as millivoltsOf}
-use Rattle.esp32s2.specs.declared.tag.RtcCalibParam.{RtcCalibParam}
-use Rattle.esp32s2.specs.declared.tag.RtcCalibParam.the-variants.{Vhigh, Vinit}
-use Rattle.esp32s2.specs.Reading.{calibReadingOf}
+use Rattle.s2_readings.specs.declared.tag.RtcCalibParam.{RtcCalibParam}
+use Rattle.s2_readings.specs.declared.tag.RtcCalibParam.the-variants.{Vhigh, Vinit}
+use Rattle.s2_readings.specs.Reading.{calibReadingOf}
 use Rattle.esp32c6.specs.Code.{calCodeOf}
 use Rattle.esp32c6.specs.Channel.{chanCompensOf}
 use Rattle.curve.specs.Correct.{correctOf}

@@ -1,0 +1,10 @@
+pub mod Chains
+pub mod Exactly
+pub mod Fits
+pub mod Ranges
+pub mod Readings
+pub mod Rule
+pub mod Says
+pub mod TableRule
+pub mod Tags
+pub mod Unique

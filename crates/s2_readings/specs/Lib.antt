@@ -1,0 +1,5 @@
+pub mod Reading
+pub mod Rule
+pub mod Table
+pub mod Tag
+pub mod When
