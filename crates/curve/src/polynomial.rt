@@ -32,6 +32,15 @@ fn poly(table: &[i64], k: u8, start: usize, len: usize, v: u16) -> i64
     poly
 }
 
+// The same of the flat table. Apart from the arms below: an arm that lends the table costs the check five times as much.
+fn curve_poly(k: u8, start: usize, len: usize, v: u16) -> i64
+    requires { ⌜ (part start len ≡ partAt k) × (k < 40) × (1 ≤ v) × (v ≤ 4095) ⌝ }
+    ensures { λ r. ⌜ r ≡ horner (curveOf k) v ⌝ }
+{
+    let flat = coeffs();
+    poly(&flat, k, start, len, v)
+}
+
 // The error polynomial of curve k at v. Each arm gives a curve's start in the flat table and its length as numbers that are known when
 // this is compiled, so that no table is left in the code, but each curve's own few steps with its own coefficients. Looked up by a start
 // and a length that are known only when it runs, the constant would be built anew on the stack at each call.
@@ -39,49 +48,47 @@ pub(crate) fn poly_at(k: u8, v: u16) -> i64
     requires { ⌜ (k < 40) × (1 ≤ v) × (v ≤ 4095) ⌝ }
     ensures { λ r. ⌜ r ≡ horner (curveOf k) v ⌝ }
 {
-    let flat = coeffs();
-    let table = &flat;
     match k {
-        0 => poly(table, k, 0, 3, v), // esp32c3 CURVES_COEFFS1
-        1 => poly(table, k, 3, 3, v),
-        2 => poly(table, k, 6, 3, v),
-        3 => poly(table, k, 9, 5, v),
-        4 => poly(table, k, 14, 3, v), // esp32c5 CURVES_COEFFS1
-        5 => poly(table, k, 17, 3, v),
-        6 => poly(table, k, 20, 3, v),
-        7 => poly(table, k, 23, 3, v),
-        8 => poly(table, k, 26, 3, v), // esp32c6 CURVES_COEFFS1
-        9 => poly(table, k, 29, 3, v),
-        10 => poly(table, k, 32, 3, v),
-        11 => poly(table, k, 35, 3, v),
-        12 => poly(table, k, 38, 2, v), // esp32c61 CURVES_COEFFS1
-        13 => poly(table, k, 40, 2, v),
-        14 => poly(table, k, 42, 2, v),
-        15 => poly(table, k, 44, 3, v),
-        16 => poly(table, k, 47, 0, v), // esp32c6 CURVES_COEFFS1_V2
-        17 => poly(table, k, 47, 0, v),
-        18 => poly(table, k, 47, 3, v),
-        19 => poly(table, k, 50, 3, v),
-        20 => poly(table, k, 53, 3, v), // esp32h2 CURVES_COEFFS1
-        21 => poly(table, k, 56, 3, v),
-        22 => poly(table, k, 59, 3, v),
-        23 => poly(table, k, 62, 3, v),
-        24 => poly(table, k, 65, 2, v), // esp32p4 CURVES_COEFFS1
-        25 => poly(table, k, 67, 2, v),
-        26 => poly(table, k, 69, 2, v),
-        27 => poly(table, k, 71, 2, v),
-        28 => poly(table, k, 73, 2, v), // esp32p4 CURVES_COEFFS2
-        29 => poly(table, k, 75, 2, v),
-        30 => poly(table, k, 77, 2, v),
-        31 => poly(table, k, 79, 2, v),
-        32 => poly(table, k, 81, 3, v), // esp32s3 CURVES_COEFFS1
-        33 => poly(table, k, 84, 3, v),
-        34 => poly(table, k, 87, 3, v),
-        35 => poly(table, k, 90, 5, v),
-        36 => poly(table, k, 95, 3, v), // esp32s3 CURVES_COEFFS2
-        37 => poly(table, k, 98, 3, v),
-        38 => poly(table, k, 101, 3, v),
-        39 => poly(table, k, 104, 5, v),
+        0 => curve_poly(k, 0, 3, v), // esp32c3 CURVES_COEFFS1
+        1 => curve_poly(k, 3, 3, v),
+        2 => curve_poly(k, 6, 3, v),
+        3 => curve_poly(k, 9, 5, v),
+        4 => curve_poly(k, 14, 3, v), // esp32c5 CURVES_COEFFS1
+        5 => curve_poly(k, 17, 3, v),
+        6 => curve_poly(k, 20, 3, v),
+        7 => curve_poly(k, 23, 3, v),
+        8 => curve_poly(k, 26, 3, v), // esp32c6 CURVES_COEFFS1
+        9 => curve_poly(k, 29, 3, v),
+        10 => curve_poly(k, 32, 3, v),
+        11 => curve_poly(k, 35, 3, v),
+        12 => curve_poly(k, 38, 2, v), // esp32c61 CURVES_COEFFS1
+        13 => curve_poly(k, 40, 2, v),
+        14 => curve_poly(k, 42, 2, v),
+        15 => curve_poly(k, 44, 3, v),
+        16 => curve_poly(k, 47, 0, v), // esp32c6 CURVES_COEFFS1_V2
+        17 => curve_poly(k, 47, 0, v),
+        18 => curve_poly(k, 47, 3, v),
+        19 => curve_poly(k, 50, 3, v),
+        20 => curve_poly(k, 53, 3, v), // esp32h2 CURVES_COEFFS1
+        21 => curve_poly(k, 56, 3, v),
+        22 => curve_poly(k, 59, 3, v),
+        23 => curve_poly(k, 62, 3, v),
+        24 => curve_poly(k, 65, 2, v), // esp32p4 CURVES_COEFFS1
+        25 => curve_poly(k, 67, 2, v),
+        26 => curve_poly(k, 69, 2, v),
+        27 => curve_poly(k, 71, 2, v),
+        28 => curve_poly(k, 73, 2, v), // esp32p4 CURVES_COEFFS2
+        29 => curve_poly(k, 75, 2, v),
+        30 => curve_poly(k, 77, 2, v),
+        31 => curve_poly(k, 79, 2, v),
+        32 => curve_poly(k, 81, 3, v), // esp32s3 CURVES_COEFFS1
+        33 => curve_poly(k, 84, 3, v),
+        34 => curve_poly(k, 87, 3, v),
+        35 => curve_poly(k, 90, 5, v),
+        36 => curve_poly(k, 95, 3, v), // esp32s3 CURVES_COEFFS2
+        37 => curve_poly(k, 98, 3, v),
+        38 => curve_poly(k, 101, 3, v),
+        39 => curve_poly(k, 104, 5, v),
         _ => 0,
     }
 }
