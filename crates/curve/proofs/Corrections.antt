@@ -8,14 +8,16 @@ use Rattle.terms.specs.declared.quantity.Millivolt.{Millivolt}
 use Rattle.terms.specs.Refuse.{unitRefusal}
 use Rattle.terms.specs.When.{UnitWhen}
 use Rattle.terms.proofs.Exactly.{unit-exactly}
-use Rattle.terms.proofs.Refusals.{orElse-some, answered-good, answered-refused}
+use Rattle.terms.proofs.Refusals.{orElse-some, answered-good, answered-refused, unit-inside}
 use Rattle.terms.specs.declared.voltage.Voltage.the-variants.{Value, Refused}
-use Rattle.curve.specs.Table.{tableOf, missing, curveIn}
-use Rattle.curve.specs.Correct.{correctedOf, correctRefusal, correctOf}
-use Rattle.curve.specs.Flat.{numbered}
-use Rattle.curve.specs.NothingLost.{NothingLost}
+use Rattle.curve.specs.Table.{tableOf, missing}
+use Rattle.curves.specs.Curves.{curveIn}
+use Rattle.curves.specs.Error.{correctedOf, lessErrorOf}
+use Rattle.curve.specs.Correct.{correctRefusal, correctOf}
+use Rattle.curves.specs.Curves.{numbered}
+use Rattle.curves.specs.NothingLost.{NothingLost}
 use Rattle.curve.specs.When.{no-curve, line-above, corrected}
-use Rattle.curve.proofs.Answers.{curve-steps, error-exact}
+use Rattle.curves.proofs.Answers.{curve-steps, error-exact, less-error-in}
 use Rattle.curve.proofs.Exactly.{correct-exactly, correct-accepted}
 use Rattle.curve.proofs.Tables.{numbered-some, numbered-none, table-number, number-below}
 
@@ -61,9 +63,9 @@ module _ (chip : Chip) (unit atten : ℕ) (line : Millivolt) where
     correct-above h l =
         answered-refused _ _ Refused (sym (correct-exactly chip unit atten line 13 .1 (line-above unit-given (found h) l))) (λ z. omega arith)
 
-    pub correct-good : {v : ℕ} → table ≤ 9 → line .0 ≤ 4095 → v ≡ correctedOf (curveIn (numbered table) atten) (line .0)
+    pub correct-good : {v : ℕ} → table ≤ 9 → line .0 ≤ 4095 → v ≡ lessErrorOf table atten (line .0)
         → Value (record { 0 = v }) ≡ correctOf chip unit atten line
     unfolding correctOf
     correct-good h l v =
         answered-good _ _ Refused (correct-exactly chip unit atten line 0 .1 (corrected unit-given (found h) l))
-        (ap (λ (n : ℕ). Value (record { 0 = n })) (v ∙ rw is))
+        (ap (λ (n : ℕ). Value (record { 0 = n })) (v ∙ less-error-in table atten (line .0) h (unit-inside unit atten good .1) l ∙ rw is))

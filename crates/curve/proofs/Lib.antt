@@ -1,11 +1,5 @@
-pub mod Answers
 pub mod Corrections
-pub mod Doubles
 pub mod Exactly
-pub mod Parts
 pub mod Says
-pub mod Sound
-pub mod Spans
 pub mod Tables
 pub mod Unique
-pub mod Walk

@@ -5,8 +5,10 @@ use Rattle.terms.specs.declared.quantity.Millivolt.{Millivolt}
 use Rattle.terms.specs.Says.{Says}
 use Rattle.terms.specs.Voltage.{numberOf, valueOf}
 use Rattle.terms.proofs.Says.{voltage-says}
-use Rattle.curve.specs.Table.{tableOf, curveIn}
-use Rattle.curve.specs.Correct.{correctedOf, correctRefusal, correctOf}
+use Rattle.curve.specs.Table.{tableOf}
+use Rattle.curves.specs.Curves.{curveIn}
+use Rattle.curves.specs.Error.{correctedOf}
+use Rattle.curve.specs.Correct.{correctRefusal, correctOf}
 
 -- `correct`
 pub correct-says : (chip : Chip) (unit atten : ℕ) (line : Millivolt)

@@ -11,9 +11,9 @@ use Rattle.terms.specs.declared.chip.Chip.{Chip}
 use Rattle.terms.specs.declared.chip.Chip.the-variants.{Esp32, S2, C3, C5, C6, C61, H2, P4, S3}
 use Rattle.terms.proofs.Order.{either}
 use Rattle.terms.specs.C6Version.{versionOf}
-use Rattle.curve.specs.Curves.{Table, c6Coeffs1, c6Coeffs1V2}
+use Rattle.curves.specs.Curves.{Table, c6Coeffs1, c6Coeffs1V2}
 use Rattle.curve.specs.Table.{unit0Table, unit1Table, tableOf, missing}
-use Rattle.curve.specs.Flat.{tables, numbered}
+use Rattle.curves.specs.Curves.{tables, numbered}
 
 some-before : (ts : List Table) (t : ℕ) → t < length ts → missing (getD (map some ts) t none) ≡ false
 some-before [] t h = absurd (omega arith)

@@ -1,16 +1,14 @@
 -- Document 01, "S2, C6 and curves": which table a chip's unit has. In the crate: `curves_coeffs` of `AdcHasCurveCal`,
 -- calibration/curve.rs.
 use mathlib.Core.Bool.{Bool, true, false, cond}
-use mathlib.Core.List.{List, []}
 use mathlib.Core.Option.{Option, none, some}
 use Prim.Native.Nat.{ℕ}
 use lib.Dec.{eqb}
 use Rattle.terms.specs.declared.chip.Chip.{Chip}
 use Rattle.terms.specs.declared.chip.Chip.the-variants.{Esp32, S2, C3, C5, C6, C61, H2, P4, S3}
 use Rattle.terms.specs.C6Version.{versionOf}
-use Rattle.curve.specs.Decimal.{Decimal}
-use Rattle.curve.specs.Curves.{Table, curveAt}
-use Rattle.curve.specs.Curves.{c3Coeffs1, c5Coeffs1, c6Coeffs1, c61Coeffs1, c6Coeffs1V2, h2Coeffs1, p4Coeffs1, p4Coeffs2, s3Coeffs1, s3Coeffs2}
+use Rattle.curves.specs.Curves.{Table}
+use Rattle.curves.specs.Curves.{c3Coeffs1, c5Coeffs1, c6Coeffs1, c61Coeffs1, c6Coeffs1V2, h2Coeffs1, p4Coeffs1, p4Coeffs2, s3Coeffs1, s3Coeffs2}
 
 -- "ESP32 and S2 have no curve. A C6 takes its second table if its version by the rule above is 2, else its first"
 abbrev pub unit0Table : Chip → Option Table
@@ -39,11 +37,7 @@ unit1Table S3 = some s3Coeffs2
 unfoldable pub tableOf : Chip → ℕ → Option Table
 tableOf chip unit = cond (eqb unit 0) (unit0Table chip) (unit1Table chip)
 
--- whether there is a table, and the curve that it has at an attenuation
+-- whether there is a table
 abbrev pub missing : Option Table → Bool
 missing none = true
 missing (some t) = false
-
-abbrev pub curveIn : Option Table → ℕ → List Decimal
-curveIn none atten = []
-curveIn (some t) atten = curveAt t atten

@@ -3,10 +3,8 @@
 use terms::c6_version::rtc_calib_version;
 use terms::chip::Chip;
 ghost use mathlib.Core.Path.{_≡_};
-ghost use Rattle.curve.specs.Flat.{numbered};
+ghost use Rattle.curves.specs.Curves.{numbered};
 ghost use Rattle.curve.specs.Table.{unit0Table, unit1Table, tableOf};
-
-pub(crate) const LAST_TABLE: u8 = 9;
 
 const NO_TABLE: u8 = 10;
 

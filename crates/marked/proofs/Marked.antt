@@ -20,9 +20,10 @@ use Rattle.s2_readings.specs.Reading.{termOf, within, readingOf, readingRefusal
 use Rattle.terms.specs.C6Version.{versionOf}
 use Rattle.esp32c6.specs.Code.{versionRefusal, codeRefusal, offsetOf, calCode, calCodeOf}
 use Rattle.esp32c6.specs.Channel.{compensOf, chanCompensOf}
-use Rattle.curve.specs.Decimal.{nearest, doublings, scaled, magnitude, coefficient}
+use Rattle.curves.specs.Decimal.{nearest, doublings, scaled, magnitude, coefficient}
 use Rattle.curve.specs.Table.{tableOf}
-use Rattle.curve.specs.Correct.{horner, errorOf, correctedOf, correctRefusal, correctOf}
+use Rattle.curve.specs.Correct.{correctRefusal, correctOf}
+use Rattle.curves.specs.Error.{horner, errorOf, correctedOf}
 use Rattle.marked.specs.Cases.{Case, cases}
 
 pub marked : map (λ (c : Case). c .asked) cases ≡ map (λ (c : Case). c .answer) cases

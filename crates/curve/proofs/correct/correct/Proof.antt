@@ -1,10 +1,8 @@
 -- `curve::correct::correct` meets its contract: at each `return` the tests that led there say which case of the definition holds.
 -- Assumes nothing.
 use mathlib.Core.Path.{_≡_, sym, _∙_}
-use native.Mathlib.Omega.{arith}
 use borrow.Author.Needs.{needs}
 use Rattle.terms.specs.Refuse.{unitRefusal}
-use Rattle.terms.proofs.Refusals.{unit-inside}
 use Rattle.curve.proofs.Corrections.{correct-unit, correct-none, correct-above, correct-good}
 use Rattle.curve.proofs.correct.correct.Statement.{statement}
 use Rattle.curve.proofs.correct.correct.Tie as tie
@@ -31,7 +29,7 @@ returns-3 c =
     correct-above _ _ _ _ (good (p .before)) _ (p .table-of .ensures) (c .before .if2 .left) (c .if3 .taken)
 
 less-error-requires : tie.Need-less-error-requires
-less-error-requires c κs = let inside = unit-inside _ _ (good (c .before .before .before)) in omega arith
+less-error-requires c κs = search needs
 
 returns-4 : tie.Need-returns-4
 returns-4 c =
