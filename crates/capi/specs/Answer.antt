@@ -4,9 +4,9 @@ use Prim.Native.Nat.{ℕ}
 use lib.IntN.{ℤ}
 use Rattle.terms.specs.declared.refusal.Outcome.{Outcome}
 use Rattle.terms.specs.declared.quantity.Millivolt.{Millivolt}
+use Rattle.terms.specs.declared.voltage.Voltage.{Voltage}
 use Rattle.terms.specs.Refuse.{numberOf}
-use Rattle.line.specs.declared.convert.Converted.{Converted}
-use Rattle.line.specs.Convert.{numberOf as convertNumber, valueOf as convertValue}
+use Rattle.terms.specs.Voltage.{numberOf as voltageNumber, valueOf as voltageValue}
 use Rattle.capi.specs.declared.answer.SkvRefusal.{SkvRefusal}
 use Rattle.capi.specs.declared.answer.SkvOutcome.{SkvOutcome}
 use Rattle.capi.specs.declared.answer.SkvVoltage.{SkvVoltage}
@@ -28,8 +28,8 @@ codeC number code = record { refusal = refusalC number; code = code }
 abbrev pub readingC : ℕ → ℤ → SkvReading
 readingC number value = record { refusal = refusalC number; value = value }
 
-abbrev pub convertedC : Converted → SkvVoltage
-convertedC converted = voltageC (convertNumber converted) (record { 0 = convertValue converted })
+abbrev pub convertedC : Voltage → SkvVoltage
+convertedC converted = voltageC (voltageNumber converted) (voltageValue converted)
 
 -- a yes or no as a byte
 abbrev pub yesOrNo : Bool → ℕ

@@ -1,8 +1,8 @@
 // What C is handed and given by value, where more than one part of the library has it.
-use line::convert::Converted;
 use terms::quantity::Millivolt;
 use terms::refusal;
 use terms::refusal::Outcome;
+use terms::voltage::Voltage;
 ghost use mathlib.Core.Path.{_≡_};
 ghost use Rattle.capi.specs.Answer.{refusalC, outcomeC, voltageC, codeC, readingC, convertedC, yesOrNo};
 
@@ -98,12 +98,12 @@ pub fn reading_c(number: u8, value: i32) -> SkvReading
 }
 
 // What C is given of a conversion.
-pub fn converted_c(converted: Converted) -> SkvVoltage
+pub fn converted_c(converted: Voltage) -> SkvVoltage
     ensures { λ r. ⌜ r ≡ convertedC converted ⌝ }
 {
     match converted {
-        Converted::Voltage(voltage) => voltage_c(refusal::NONE, voltage),
-        Converted::Refused(why) => voltage_c(why.number, Millivolt(0)),
+        Voltage::Value(voltage) => voltage_c(refusal::NONE, voltage),
+        Voltage::Refused(why) => voltage_c(why.number, Millivolt(0)),
     }
 }
 

@@ -5,6 +5,7 @@ use lib.IntN.{ℤ, pos, negℤ}
 use lib.ListN.{replicate}
 use Rattle.terms.specs.declared.chip.Chip.{Chip}
 use Rattle.terms.specs.declared.chip.Chip.the-variants.{C3, S3}
+use Rattle.terms.specs.Voltage.{valueOf as voltageOf}
 use Rattle.efuse.specs.Field.{eight}
 use Rattle.line.specs.declared.record.LineRecord.{LineRecord}
 use Rattle.esp32.specs.Code.{vrefOf, twoPointCode, lowOf, highOf}
@@ -12,7 +13,6 @@ use Rattle.esp32.specs.Characterize.{topOf}
 use Rattle.esp32.specs.Decode.{decodeOf}
 use Rattle.esp32.specs.Decode.{numberOf as numberDecoded, valueOf as recordDecoded}
 use Rattle.line.specs.Convert.{convertOf}
-use Rattle.line.specs.Convert.{valueOf as millivoltsOf}
 use Rattle.esp32s2.specs.declared.tag.RtcCalibParam.{RtcCalibParam}
 use Rattle.esp32s2.specs.declared.tag.RtcCalibParam.the-variants.{Vhigh, Vinit}
 use Rattle.esp32s2.specs.Reading.{calibReadingOf}
@@ -65,7 +65,7 @@ a-and-b dump = decoded dump .«coeff_a» ∷ decoded dump .«coeff_b» ∷ []
 
 -- the millivolts of a count by the record of a zero dump, whose Vref is 1100
 abbrev converted : ℕ → ℕ
-converted raw = millivoltsOf (convertOf (decoded (filledWith 0)) raw)
+converted raw = voltageOf (convertOf (decoded (filledWith 0)) raw) .0
 
 -- t of unit 0's codes, and the number of the decoding
 abbrev top-and-number : ℕ → ℕ → List ℕ
