@@ -6,7 +6,6 @@ use Rattle.capi.proofs.answer.outcome_c.Reads as outcome-c
 use Rattle.capi.proofs.answer.voltage_c.Reads as voltage-c
 use Rattle.capi.proofs.answer.code_c.Reads as code-c
 use Rattle.capi.proofs.answer.reading_c.Reads as reading-c
-use Rattle.capi.proofs.answer.converted_c.Reads as converted-c
 use Rattle.capi.proofs.answer.yes_or_no.Reads as yes-or-no
 
 pub refusal-c-one : OneAnswer (λ κs z e. z) refusal-c.Post
@@ -23,9 +22,6 @@ code-c-one κs a z z′ e e′ p q = p ∙ sym q
 
 pub reading-c-one : OneAnswer (λ κs z e. z) reading-c.Post
 reading-c-one κs a z z′ e e′ p q = p ∙ sym q
-
-pub converted-c-one : OneAnswer (λ κs z e. z) converted-c.Post
-converted-c-one κs a z z′ e e′ p q = p ∙ sym q
 
 pub yes-or-no-one : OneAnswer (λ κs z e. z) yes-or-no.Post
 yes-or-no-one κs a z z′ e e′ p q = p ∙ sym q

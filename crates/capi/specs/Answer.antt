@@ -11,8 +11,6 @@ use Rattle.terms.specs.Refuse.{numberOf}
 use Rattle.terms.specs.Code as code
 use Rattle.terms.specs.Reading as reading
 use Rattle.terms.specs.Voltage as voltage
-use Rattle.line.specs.declared.convert.Converted.{Converted}
-use Rattle.line.specs.Convert.{numberOf as convertNumber, valueOf as convertValue}
 use Rattle.capi.specs.declared.answer.SkvRefusal.{SkvRefusal}
 use Rattle.capi.specs.declared.answer.SkvOutcome.{SkvOutcome}
 use Rattle.capi.specs.declared.answer.SkvVoltage.{SkvVoltage}
@@ -42,9 +40,6 @@ codeC answer = withCode (code.numberOf answer) (code.valueOf answer)
 
 abbrev pub readingC : Reading → SkvReading
 readingC answer = withReading (reading.numberOf answer) (reading.valueOf answer)
-
-abbrev pub convertedC : Converted → SkvVoltage
-convertedC converted = withVoltage (convertNumber converted) (record { 0 = convertValue converted })
 
 -- a yes or no as a byte
 abbrev pub yesOrNo : Bool → ℕ

@@ -1,5 +1,4 @@
 // What C is handed and given by value, where more than one part of the library has it.
-use line::convert::Converted;
 use terms::code::Code;
 use terms::quantity::Millivolt;
 use terms::reading::Reading;
@@ -7,7 +6,7 @@ use terms::refusal;
 use terms::refusal::Outcome;
 use terms::voltage::Voltage;
 ghost use mathlib.Core.Path.{_≡_};
-ghost use Rattle.capi.specs.Answer.{refusalC, outcomeC, withVoltage, withCode, withReading, voltageC, codeC, readingC, convertedC, yesOrNo};
+ghost use Rattle.capi.specs.Answer.{refusalC, outcomeC, withVoltage, withCode, withReading, voltageC, codeC, readingC, yesOrNo};
 
 // Why a call was turned down; number 0 where it wasn't. It stands in every answer that may be a refusal, and is made in one place.
 #[repr(C)]
@@ -125,16 +124,6 @@ pub fn reading_c(answer: Reading) -> SkvReading
     match answer {
         Reading::Value(value) => with_reading(refusal::NONE, value),
         Reading::Refused(why) => with_reading(why.number, 0),
-    }
-}
-
-// What C is given of a conversion.
-pub fn converted_c(converted: Converted) -> SkvVoltage
-    ensures { λ r. ⌜ r ≡ convertedC converted ⌝ }
-{
-    match converted {
-        Converted::Voltage(voltage) => with_voltage(refusal::NONE, voltage),
-        Converted::Refused(why) => with_voltage(why.number, Millivolt(0)),
     }
 }
 

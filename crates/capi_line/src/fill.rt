@@ -4,12 +4,12 @@ use crate::record::record_from;
 use capi::answer::SkvCount;
 use capi::answer::SkvOutcome;
 use capi::answer::outcome_c;
-use line::fill;
+use stretch::fill;
 use terms::quantity::Count;
 ghost use mathlib.Core.Path.{_≡_};
 ghost use lib.ListN.{length};
 ghost use Rattle.terms.specs.Refuse.{outcomeOf};
-ghost use Rattle.line.specs.Fill.{fillRefusal, filled};
+ghost use Rattle.stretch.specs.Fill.{fillRefusal, filled};
 ghost use Rattle.capi.specs.Answer.{outcomeC};
 ghost use Rattle.capi_line.specs.Record.{recordFrom};
 

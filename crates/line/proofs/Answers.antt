@@ -7,17 +7,22 @@ use native.Mathlib.Omega.{arith}
 use borrow.Author.Tests.{lt-leb, le-leb, leb-true}
 use Rattle.terms.proofs.Order.{either, whether}
 use Rattle.terms.proofs.Refusals.{and-true, and-false}
+use Rattle.lut.proofs.Sums.{voltage-is, sum-most}
 use Rattle.line.specs.declared.record.LineRecord.{LineRecord}
 use Rattle.line.specs.Record.{usesLookup}
 use Rattle.line.specs.Lookup.{lookupVoltage}
-use Rattle.line.specs.Convert.{lineVoltage, blendOf, beyondLine, answerAt}
+use Rattle.line.specs.Convert.{lineVoltage, blendOf, meanOf, beyondLine, answerAt}
 use Rattle.line.specs.When.{InRanges}
-use Rattle.line.proofs.Sums.{voltage-is, sum-most}
 
 -- the blend is a mean of its two ends, and so within what they are
 module _ (y1 y2 x : ℕ) (h : x ≤ 64) where
-  pub blend-room : y1 * x ≤ y1 * 64
+  blend-room : y1 * x ≤ y1 * 64
   blend-room = mul-le-mul-left y1 h
+
+  -- by what is left of the 64 and what is gone
+  pub blend-mean : meanOf y1 y2 (64 - x) x ≡ blendOf y1 y2 x
+  unfolding meanOf blendOf
+  blend-mean = omega (arith, blend-room, mul-sub y1 64 x)
 
   pub blend-within : (lo hi : ℕ) → (lo ≤ y1) × (y1 ≤ hi) → (lo ≤ y2) × (y2 ≤ hi) → (lo ≤ blendOf y1 y2 x) × (blendOf y1 y2 x ≤ hi)
   unfolding blendOf
@@ -36,6 +41,16 @@ module _ (y1 y2 x : ℕ) (h : x ≤ 64) where
         mul-le-mul-right x (q .0),
         mul-le-mul-right x (q .1),
       )
+
+-- of 16 bits and counts of 8 its sum is small
+weighed-small : (y w : ℕ) → y < 65536 → w < 256 → y * w ≤ 16711425
+weighed-small y w p q =
+    let most : y ≤ 65535 = omega arith in
+    let weight : w ≤ 255 = omega arith in
+    mul-le-mul most weight
+
+pub mean-small : (y1 y2 left gone : ℕ) → y1 < 65536 → y2 < 65536 → left < 256 → gone < 256 → y1 * left + y2 * gone ≤ 33422850
+mean-small y1 y2 left gone p q l g = omega (arith, weighed-small y1 left p l, weighed-small y2 gone q g)
 
 -- it starts at the first and ends at the second
 pub blend-first : (y1 y2 : ℕ) → blendOf y1 y2 0 ≡ y1
@@ -99,7 +114,7 @@ module _ (r : LineRecord) (ranges : InRanges r) (raw : ℕ) where
   line-most h = omega (arith, mul-le-mul (ranges .a) h)
 
   pub lookup-most : 2880 ≤ raw → raw ≤ 4095 → lookupVoltage r raw ≤ 12285
-  lookup-most l h = omega (arith, voltage-is r raw, sum-most r ranges raw l (omega arith))
+  lookup-most l h = omega (arith, voltage-is (r .unit) (r .vref) raw, sum-most (r .unit) (r .vref) raw l (ranges .vref-most) (omega arith))
 
   -- an answer by which of the three it is
   by-region : (P : ℕ → Type 0)

@@ -1,14 +1,8 @@
 pub mod Answers
 pub mod Conversions
-pub mod DemandThree
 pub mod Exactly
-pub mod Fills
-pub mod Points
-pub mod Ramps
+pub mod Lookups
 pub mod Records
 pub mod Rising
 pub mod Says
-pub mod Segments
-pub mod Stretches
-pub mod Sums
 pub mod Unique

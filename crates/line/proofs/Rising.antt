@@ -5,14 +5,13 @@ use mathlib.Core.Bool.{true, false}
 use Prim.Native.Nat.{ℕ, zero, suc, _+_, _-_, _/_, _≤_, min, max}
 use native.Mathlib.Nat.{mul-le-mul-left, le-refl, le-trans, add-zero, add-sub-of-le, min-le-left, min-le-right, le-max-left, le-max-right}
 use native.Mathlib.Omega.{arith}
+use Rattle.lut.proofs.Sums.{voltage-is, sum-along}
 use Rattle.line.specs.declared.record.LineRecord.{LineRecord}
 use Rattle.line.specs.Record.{usesLookup}
 use Rattle.line.specs.Lookup.{lookupVoltage}
 use Rattle.line.specs.Convert.{lineVoltage, answerAt}
-use Rattle.line.specs.Walk.{pointAt, lookupSum}
 use Rattle.line.specs.When.{InRanges}
 use Rattle.line.proofs.Answers.{beyond-plain, answer-line, answer-blend, answer-upper, blend-first, blend-within}
-use Rattle.line.proofs.Sums.{around, voltage-is}
 
 line-rises : (r : LineRecord) {c d : ℕ} → c ≤ d → lineVoltage r c ≤ lineVoltage r d
 unfolding lineVoltage
@@ -26,9 +25,12 @@ module _ (r : LineRecord) (ranges : InRanges r) where
   -- each count adds to the lookup's sum what its step adds
   one-more : (c : ℕ) → 2880 ≤ c → c ≤ 4095 → lookupVoltage r c ≤ lookupVoltage r (c + 1)
   one-more c l u =
-      let i : ℕ = (c - 2880) / 64 in
-      let b = around r ranges c l u {here = pointAt (r .unit) (r .vref) i} {there = pointAt (r .unit) (r .vref) (i + 1)} refl refl in
-      omega (arith, voltage-is r c, voltage-is r (c + 1), ap (lookupSum r) (add-zero c), b .sums 0 (omega arith), b .sums 1 (omega arith))
+      omega (
+        arith,
+        voltage-is (r .unit) (r .vref) c,
+        voltage-is (r .unit) (r .vref) (c + 1),
+        sum-along (r .unit) (r .vref) c l u (ranges .vref-least) (ranges .vref-most) 1 (omega arith),
+      )
 
   more : (c n : ℕ) → 2880 ≤ c → c + n ≤ 4095 → lookupVoltage r c ≤ lookupVoltage r (c + n)
   more c zero l u = rw add-zero (le-refl _)

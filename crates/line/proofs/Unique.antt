@@ -1,15 +1,14 @@
--- Each public call's promise, as the check reads it from the source, admits one answer and one content of lent memory per input:
--- it is an equation. Assumes nothing.
+-- Each public call's promise, as the check reads it from the source, admits one answer per input: it is an equation. Assumes nothing.
 use mathlib.Core.Path.{sym, _∙_}
-use mathlib.Core.List.{List}
-use Prim.Native.Nat.{ℕ}
-use denote.Ref.{now}
-use Rattle.terms.specs.declared.refusal.Outcome.{Outcome}
 use Rattle.terms.specs.OneAnswer.{OneAnswer}
 use Rattle.line.proofs.record.line_record.Reads as line-record
 use Rattle.line.proofs.record.check_record.Reads as check-record
 use Rattle.line.proofs.convert.convert.Reads as convert
-use Rattle.line.proofs.fill.fill.Reads as fill
+use Rattle.line.proofs.lookup.lut_slope.Reads as lut-slope
+use Rattle.line.proofs.convert.beyond_line.Reads as beyond-line
+use Rattle.line.proofs.convert.interpolate_two_points.Reads as interpolate-two-points
+use Rattle.line.proofs.record.record_refusal.Reads as record-refusal
+use Rattle.line.proofs.record.uses_lookup.Reads as uses-lookup
 
 pub line-record-one : OneAnswer (λ κs z e. z) line-record.Post
 line-record-one κs a z z′ e e′ p q = p ∙ sym q
@@ -20,6 +19,17 @@ check-record-one κs a z z′ e e′ p q = p ∙ sym q
 pub convert-one : OneAnswer (λ κs z e. z) convert.Post
 convert-one κs a z z′ e e′ p q = p ∙ sym q
 
--- of a fill there is to see the outcome and what the lent list, the third parameter, is at exit
-pub fill-one : OneAnswer {X = Outcome × List ℕ} (λ κs z e. (z, now (e .1 .1 .0))) fill.Post
-fill-one κs a z z′ e e′ p q = λ i. ((p .0 ∙ sym (q .0)) i, (p .1 ∙ sym (q .1)) i)
+pub uses-lookup-one : OneAnswer (λ κs z e. z) uses-lookup.Post
+uses-lookup-one κs a z z′ e e′ p q = p ∙ sym q
+
+pub record-refusal-one : OneAnswer (λ κs z e. z) record-refusal.Post
+record-refusal-one κs a z z′ e e′ p q = p ∙ sym q
+
+pub interpolate-two-points-one : OneAnswer (λ κs z e. z) interpolate-two-points.Post
+interpolate-two-points-one κs a z z′ e e′ p q = p ∙ sym q
+
+pub beyond-line-one : OneAnswer (λ κs z e. z) beyond-line.Post
+beyond-line-one κs a z z′ e e′ p q = p ∙ sym q
+
+pub lut-slope-one : OneAnswer (λ κs z e. z) lut-slope.Post
+lut-slope-one κs a z z′ e e′ p q = p ∙ sym q

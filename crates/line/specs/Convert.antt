@@ -3,11 +3,11 @@
 -- ESP-IDF's components/esp_adc/esp32/adc_cali_line_fitting.c, from line 155 on.
 use mathlib.Core.Bool.{Bool, cond, _&&_}
 use Prim.Native.Nat.{ℕ, _+_, _*_, _-_, _/_}
-use lib.Dec.{ltb, leb}
-use Rattle.terms.specs.Refuse.{refuse, orElse, answered}
+use lib.Dec.{leb}
+use Rattle.terms.specs.declared.voltage.Voltage.{Voltage}
+use Rattle.terms.specs.declared.voltage.Voltage.the-variants.{Value, Refused}
+use Rattle.terms.specs.Refuse.{orElse, answered, rawRefusal}
 use Rattle.line.specs.declared.record.LineRecord.{LineRecord}
-use Rattle.line.specs.declared.convert.Converted.{Converted}
-use Rattle.line.specs.declared.convert.Converted.the-variants.{Voltage, Refused}
 use Rattle.line.specs.Record.{usesLookup, recordRefusal}
 use Rattle.line.specs.Lookup.{lookupVoltage}
 
@@ -22,6 +22,10 @@ lineVoltage r raw = (lineNumerator r raw + 32768) / 65536 + r .«coeff_b»
 -- "the blend over 64 counts, as in .. `interpolate_two_points`": from y1 to y2, with x of the 64 gone
 unfoldable pub blendOf : ℕ → ℕ → ℕ → ℕ
 blendOf y1 y2 x = (y1 * 64 + y2 * x - y1 * x + 32) / 64
+
+-- the same by the counts that are left and those that are gone
+unfoldable pub meanOf : ℕ → ℕ → ℕ → ℕ → ℕ
+meanOf y1 y2 left gone = (y1 * left + y2 * gone + 32) / 64
 
 -- "Attenuation 3: line below 2880 .. Others: line": whether a count is past those that the line alone answers
 unfoldable pub beyondLine : LineRecord → ℕ → Bool
@@ -39,17 +43,8 @@ answerAt r raw =
 unfoldable pub convertRefusal : LineRecord → ℕ → ℕ
 convertRefusal r raw =
     orElse (recordRefusal r)
-    (refuse (ltb 4095 raw) 8 0)
-
--- document 01's number and millivolts of a conversion, zeros beside a refusal
-abbrev pub numberOf : Converted → ℕ
-numberOf (Voltage mv) = 0
-numberOf (Refused r) = r .number
-
-abbrev pub valueOf : Converted → ℕ
-valueOf (Voltage mv) = mv .0
-valueOf (Refused r) = 0
+    (rawRefusal raw)
 
 -- converting a count: its millivolts, or its refusal
-unfoldable pub convertOf : LineRecord → ℕ → Converted
-convertOf r raw = answered (convertRefusal r raw) (Voltage (record { 0 = answerAt r raw })) Refused
+unfoldable pub convertOf : LineRecord → ℕ → Voltage
+convertOf r raw = answered (convertRefusal r raw) (Value (record { 0 = answerAt r raw })) Refused

@@ -1,58 +1,32 @@
--- Document 01, "ESP32 line rules": "Lookup and its final division by 12800 with 6400 added .. as in `calculate_voltage_lut`".
--- In the crate: that function of calibration/line/esp32.rs, with the tables beside it; its source is ESP-IDF's
--- components/esp_adc/esp32/adc_cali_line_fitting.c, from line 155 on.
-use mathlib.Core.Bool.{cond}
-use mathlib.Core.List.{List, [], _∷_}
-use Prim.Native.Nat.{ℕ, _+_, _*_, _-_, _/_, min}
-use lib.ListN.{getD}
-use lib.Dec.{eqb}
-use lib.IntN.{ℤ, pos, natAbs, _+ℤ_, _-ℤ_, _*ℤ_}
-use lib.Signed.{quotZ}
+-- Document 01, "ESP32 line rules": the lookup of a record, by its unit and its Vref; the formula itself is `lut`'s.
+use mathlib.Core.Bool.{Bool, cond, _&&_}
+use Prim.Native.Nat.{ℕ, _+_, _-_}
+use lib.Dec.{leb, eqb}
+use lib.IntN.{ℤ}
+use Rattle.lut.specs.Lookup.{numeratorAt, sumAt, voltageAt}
 use Rattle.line.specs.declared.record.LineRecord.{LineRecord}
+use Rattle.line.specs.declared.lookup.Slope.{Slope}
+use Rattle.line.specs.Record.{recordRefusal}
 
--- the crate's four tables: millivolts at the counts 2880, 2944, .., 64 apart, at a Vref of 1000 (low) and of 1200 (high)
-abbrev pub lutAdc1Low : List ℕ
-lutAdc1Low =
-    2240 ∷ 2297 ∷ 2352 ∷ 2405 ∷ 2457 ∷ 2512 ∷ 2564 ∷ 2616 ∷ 2664 ∷ 2709
-    ∷ 2754 ∷ 2795 ∷ 2832 ∷ 2868 ∷ 2903 ∷ 2937 ∷ 2969 ∷ 3000 ∷ 3030 ∷ 3060 ∷ []
+-- its numerator at a count, before 6400 is added
+abbrev pub lookupNumerator : LineRecord → ℕ → ℤ
+lookupNumerator r raw = numeratorAt (r .unit) (r .vref) raw
 
-abbrev pub lutAdc1High : List ℕ
-lutAdc1High =
-    2667 ∷ 2706 ∷ 2745 ∷ 2780 ∷ 2813 ∷ 2844 ∷ 2873 ∷ 2901 ∷ 2928 ∷ 2956
-    ∷ 2982 ∷ 3006 ∷ 3032 ∷ 3059 ∷ 3084 ∷ 3110 ∷ 3135 ∷ 3160 ∷ 3184 ∷ 3209 ∷ []
+-- the same with 6400 added: 12800 times its millivolts, rounding included
+abbrev pub lookupSum : LineRecord → ℕ → ℕ
+lookupSum r raw = sumAt (r .unit) (r .vref) raw
 
-abbrev pub lutAdc2Low : List ℕ
-lutAdc2Low =
-    2238 ∷ 2293 ∷ 2347 ∷ 2399 ∷ 2451 ∷ 2507 ∷ 2561 ∷ 2613 ∷ 2662 ∷ 2710
-    ∷ 2754 ∷ 2792 ∷ 2831 ∷ 2869 ∷ 2904 ∷ 2937 ∷ 2968 ∷ 2999 ∷ 3029 ∷ 3059 ∷ []
+-- its millivolts
+abbrev pub lookupVoltage : LineRecord → ℕ → ℕ
+lookupVoltage r raw = voltageAt (r .unit) (r .vref) raw
 
-abbrev pub lutAdc2High : List ℕ
-lutAdc2High =
-    2657 ∷ 2698 ∷ 2738 ∷ 2774 ∷ 2807 ∷ 2838 ∷ 2867 ∷ 2894 ∷ 2921 ∷ 2946
-    ∷ 2971 ∷ 2996 ∷ 3020 ∷ 3043 ∷ 3067 ∷ 3092 ∷ 3116 ∷ 3139 ∷ 3162 ∷ 3185 ∷ []
+-- the counts of the lookup, by a record that isn't refused
+unfoldable pub hasLookup : LineRecord → ℕ → Bool
+hasLookup r raw = eqb (recordRefusal r) 0 && leb 2880 raw && leb raw 4095
 
--- entry i of a unit's low and high table
-unfoldable pub lowAt : ℕ → ℕ → ℕ
-lowAt unit i = getD (cond (eqb unit 0) lutAdc1Low lutAdc2Low) i 0
+-- the sum at a count, and what the next count adds to it; zeros where the lookup has no such count
+abbrev pub slopeFrom : LineRecord → ℕ → Slope
+slopeFrom r raw = record { sum = lookupSum r raw; rise = lookupSum r (raw + 1) - lookupSum r raw }
 
-unfoldable pub highAt : ℕ → ℕ → ℕ
-highAt unit i = getD (cond (eqb unit 0) lutAdc1High lutAdc2High) i 0
-
--- the lookup's numerator at a count, before 6400 is added: the crate's sum, with its names, signs and order
-unfoldable pub lookupNumerator : LineRecord → ℕ → ℤ
-lookupNumerator r raw =
-    let i : ℕ = min ((raw - 2880) / 64) 18 in
-    let x2dist : ℤ = pos 1200 -ℤ pos (r .vref) in
-    let x1dist : ℤ = pos (r .vref) -ℤ pos 1000 in
-    let y2dist : ℤ = pos ((i + 1) * 64 + 2880) -ℤ pos raw in
-    let y1dist : ℤ = pos raw -ℤ pos (i * 64 + 2880) in
-    let q11 : ℤ = pos (lowAt (r .unit) i) in
-    let q12 : ℤ = pos (lowAt (r .unit) (i + 1)) in
-    let q21 : ℤ = pos (highAt (r .unit) i) in
-    let q22 : ℤ = pos (highAt (r .unit) (i + 1)) in
-    q11 *ℤ x2dist *ℤ y2dist +ℤ q21 *ℤ x1dist *ℤ y2dist +ℤ q12 *ℤ x2dist *ℤ y1dist +ℤ q22 *ℤ x1dist *ℤ y1dist
-
--- the lookup's millivolts at a count. The division cuts toward zero; the sum is never negative (proofs/Sums), so that `natAbs` is
--- the number itself
-unfoldable pub lookupVoltage : LineRecord → ℕ → ℕ
-lookupVoltage r raw = natAbs (quotZ (lookupNumerator r raw +ℤ pos 6400) (pos 12800))
+unfoldable pub lutSlope : LineRecord → ℕ → Slope
+lutSlope r raw = cond (hasLookup r raw) (slopeFrom r raw) (record { sum = 0; rise = 0 })

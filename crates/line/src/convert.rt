@@ -1,5 +1,4 @@
 // Converting a count to millivolts. In the crate: `adc_val`.
-use crate::lookup::LUT_ADC_STEP_SIZE;
 use crate::lookup::LUT_LOW_THRESH;
 use crate::lookup::calculate_voltage_lut;
 use crate::record::LineRecord;
@@ -9,25 +8,20 @@ use terms::quantity::Count;
 use terms::quantity::Millivolt;
 use terms::refusal;
 use terms::refusal::Refusal;
+use terms::voltage::Voltage;
 ghost use mathlib.Core.Path.{_≡_};
 ghost use mathlib.Core.Bool.{true};
 ghost use Prim.Native.Nat.{_≤_};
 ghost use Rattle.line.specs.Record.{recordRefusal};
-ghost use Rattle.line.specs.Convert.{lineVoltage, blendOf, beyondLine, answerAt, convertRefusal, convertOf};
+ghost use Rattle.line.specs.Convert.{lineVoltage, meanOf, beyondLine, answerAt, convertRefusal, convertOf};
 
-pub(crate) const COEFF_A_SCALE: u32 = 65536;
+pub const COEFF_A_SCALE: u32 = 65536;
 
-pub(crate) const COEFF_A_ROUND: u32 = 32768;
+pub const COEFF_A_ROUND: u32 = 32768;
 
-pub(crate) const LUT_HIGH_THRESH: u32 = 2944;
+pub const LUT_HIGH_THRESH: u32 = 2944;
 
-pub const LAST_COUNT: u16 = 4095;
-
-// A count's voltage, or why it wasn't converted.
-pub enum Converted {
-    Voltage(Millivolt),
-    Refused(Refusal),
-}
+const BLEND: u32 = LUT_HIGH_THRESH - LUT_LOW_THRESH;
 
 // The line's millivolts at a count.
 fn calculate_voltage_linear(cal: LineRecord, raw: u32) -> u32
@@ -39,12 +33,11 @@ fn calculate_voltage_linear(cal: LineRecord, raw: u32) -> u32
     (a * raw + COEFF_A_ROUND) / COEFF_A_SCALE + b
 }
 
-// From y1 to y2 over 64 counts, x of them gone.
-pub(crate) fn interpolate_two_points(y1: u32, y2: u32, x: u32) -> u32
-    requires { ⌜ (y1 ≤ 65535) × (y2 ≤ 65535) × (x ≤ 64) ⌝ }
-    ensures { λ r. ⌜ r ≡ blendOf y1 y2 x ⌝ }
+// From y1 to y2 over 64 counts: the mean of the two, of which y1 weighs as many counts as are left, and y2 as many as are gone.
+pub fn interpolate_two_points(y1: u16, y2: u16, left: u8, gone: u8) -> u32
+    ensures { λ r. ⌜ r ≡ meanOf y1 y2 left gone ⌝ }
 {
-    (y1 * LUT_ADC_STEP_SIZE + y2 * x - y1 * x + LUT_ADC_STEP_SIZE / 2) / LUT_ADC_STEP_SIZE
+    (y1 as u32 * (left as u32) + y2 as u32 * (gone as u32) + BLEND / 2) / BLEND
 }
 
 // The answer past the line: blend or lookup.
@@ -57,11 +50,13 @@ fn upper_answer(cal: LineRecord, raw: u32) -> u32
         return lut_voltage;
     }
     let linear = calculate_voltage_linear(cal, raw);
-    interpolate_two_points(linear, lut_voltage, raw - LUT_LOW_THRESH)
+    let left = (LUT_HIGH_THRESH - raw) as u8;
+    let gone = (raw - LUT_LOW_THRESH) as u8;
+    interpolate_two_points(linear as u16, lut_voltage as u16, left, gone)
 }
 
 // Whether a count is past those that the line alone answers.
-pub(crate) fn beyond_line(cal: LineRecord, raw: u32) -> bool
+pub fn beyond_line(cal: LineRecord, raw: u32) -> bool
     ensures { λ r. ⌜ r ≡ beyondLine cal raw ⌝ }
 {
     if uses_lookup(cal) {
@@ -89,21 +84,18 @@ fn convert_refusal(cal: LineRecord, raw: u16) -> u8
     if number != refusal::NONE {
         return number;
     }
-    if LAST_COUNT < raw {
-        return refusal::RAW;
-    }
-    refusal::NONE
+    refusal::raw_refusal(raw)
 }
 
 // The millivolts of a count, at most 12,285. Any count by any record is answered; refusals 10, 8.
-pub fn convert(cal: LineRecord, count: Count) -> Converted
+pub fn convert(cal: LineRecord, count: Count) -> Voltage
     ensures { λ r. ⌜ r ≡ convertOf cal (count .0) ⌝ }
 {
     let raw = count.0;
     let number = convert_refusal(cal, raw);
     if number != refusal::NONE {
-        return Converted::Refused(Refusal { number });
+        return Voltage::Refused(Refusal { number });
     }
     let mv = answer(cal, raw as u32) as u16;
-    Converted::Voltage(Millivolt(mv))
+    Voltage::Value(Millivolt(mv))
 }

@@ -1,6 +1,4 @@
-// Line calibration: the line record, and what it converts and fills.
+// Line calibration: the line record, and what it converts a count to.
 pub mod convert;
-pub mod fill;
-mod lookup;
-mod ramp;
+pub mod lookup;
 pub mod record;

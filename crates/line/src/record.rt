@@ -38,14 +38,14 @@ pub fn line_record(coeff_a: u32, coeff_b: u32, vref: u32, unit: u8, atten: u8) -
 }
 
 // Whether converting by the record uses the lookup. No other function that converts by a record reads its yes or no.
-pub(crate) fn uses_lookup(cal: LineRecord) -> bool
+pub fn uses_lookup(cal: LineRecord) -> bool
     ensures { λ r. ⌜ r ≡ usesLookup cal ⌝ }
 {
     cal.use_lut
 }
 
 // 10 where the record is outside its ranges.
-pub(crate) fn record_refusal(cal: LineRecord) -> u8
+pub fn record_refusal(cal: LineRecord) -> u8
     ensures { λ r. ⌜ r ≡ recordRefusal cal ⌝ }
 {
     let a = cal.coeff_a;

@@ -1,6 +1,5 @@
 // data/convert: counts, and their millivolts by line records.
 use line::convert;
-use line::convert::Converted;
 use line::record;
 use line::record::LineRecord;
 use replay::answer;
@@ -8,6 +7,7 @@ use replay::answer::Answer;
 use replay::bytes;
 use terms::quantity::Count;
 use terms::refusal;
+use terms::voltage::Voltage;
 
 // The record at the start of a case.
 pub(crate) fn record_of(case: &[u8]) -> LineRecord {
@@ -20,10 +20,10 @@ pub(crate) fn record_of(case: &[u8]) -> LineRecord {
     }
 }
 
-fn convert_answer(got: Converted) -> Answer {
+fn convert_answer(got: Voltage) -> Answer {
     match got {
-        Converted::Voltage(mv) => answer::good(mv.0 as i64),
-        Converted::Refused(why) => answer::refused(why),
+        Voltage::Value(mv) => answer::good(mv.0 as i64),
+        Voltage::Refused(why) => answer::refused(why),
     }
 }
 

@@ -1,9 +1,9 @@
 // data/fill: whole tables. data/stretches: stretches of them, with the sum of what is written.
 use crate::convert::record_of;
-use line::fill;
 use line::record::LineRecord;
 use replay::answer;
 use replay::bytes;
+use stretch::fill;
 use terms::quantity::Count;
 use terms::refusal;
 use terms::refusal::Outcome;

@@ -1,7 +1,7 @@
 -- Document 01's marked cases hold: what is asked computes to what it says, all in one. Assumes nothing.
 use mathlib.Core.Path.{_≡_, refl}
 use mathlib.Core.List.{map, flatten}
-use Rattle.terms.specs.Refuse.{firstOf, unitRefusal}
+use Rattle.terms.specs.Refuse.{firstOf, unitRefusal, rawRefusal}
 use Rattle.terms.specs.Sign.{signMagnitude}
 use Rattle.dumps.specs.Dump.{dumpRefusal}
 use Rattle.efuse.specs.Field.{bitsOf, placeRefusal, fieldBits}
@@ -12,7 +12,8 @@ use Rattle.esp32.specs.Code.{vrefOf, twoPointCode, pointOf, lowOf, highOf}
 use Rattle.esp32.specs.Characterize.{tpScale, tpOffset, vrefScale, vrefOffset, twoPointA, topOf, twoPointB, topRefusal, coefficientsOf, sourceRefusal}
 use Rattle.esp32.specs.Decode.{twoPointUsed, sourceOf, foundOf, decodedRecord, decodeRefusal, decodeOf}
 use Rattle.line.specs.Record.{usesLookup, recordRefusal}
-use Rattle.line.specs.Lookup.{lowAt, highAt, lookupNumerator, lookupVoltage}
+use Rattle.lut.specs.Row.{lowAt, highAt}
+use Rattle.lut.specs.Lookup.{numeratorAt, voltageAt}
 use Rattle.line.specs.Convert.{lineVoltage, blendOf, beyondLine, answerAt, convertRefusal, convertOf}
 use Rattle.s2_readings.specs.Table.{calibMap, entryAt}
 use Rattle.s2_readings.specs.Tag.{byVersion, tagOf}
@@ -30,10 +31,10 @@ pub marked : map (λ (c : Case). c .asked) cases ≡ map (λ (c : Case). c .answ
 unfolding
     vrefOf twoPointCode pointOf lowOf highOf signMagnitude
     tpScale tpOffset vrefScale vrefOffset twoPointA topOf twoPointB topRefusal coefficientsOf sourceRefusal
-    usesLookup recordRefusal lowAt highAt lookupNumerator lookupVoltage lineVoltage blendOf beyondLine answerAt convertRefusal convertOf
+    usesLookup recordRefusal lowAt highAt numeratorAt voltageAt lineVoltage blendOf beyondLine answerAt convertRefusal convertOf
     firstOf dumpRefusal bitsOf placeRefusal fieldBits countRefusal mapRecordRefusal mapRefusal decodingRefusal valueById
     twoPointUsed sourceOf foundOf decodedRecord decodeRefusal decodeOf
     flatten calibMap entryAt byVersion tagOf termOf within readingOf readingRefusal calibReadingOf
     versionOf versionRefusal codeRefusal offsetOf calCode calCodeOf compensOf chanCompensOf
-    nearest doublings scaled magnitude coefficient tableOf horner errorOf correctedOf correctRefusal correctOf unitRefusal
+    nearest doublings scaled magnitude coefficient tableOf horner errorOf correctedOf correctRefusal correctOf unitRefusal rawRefusal
 marked = refl

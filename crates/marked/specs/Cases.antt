@@ -7,7 +7,7 @@ use Rattle.terms.specs.declared.chip.Chip.{Chip}
 use Rattle.terms.specs.declared.chip.Chip.the-variants.{C3, S3}
 use Rattle.terms.specs.Code.{valueOf as codeValue}
 use Rattle.terms.specs.Reading.{valueOf as readingValue}
-use Rattle.terms.specs.Voltage.{valueOf as correctedTo}
+use Rattle.terms.specs.Voltage.{valueOf as voltageOf}
 use Rattle.dumps.specs.Dump.{eight}
 use Rattle.line.specs.declared.record.LineRecord.{LineRecord}
 use Rattle.esp32.specs.Code.{vrefOf, twoPointCode, lowOf, highOf}
@@ -15,7 +15,6 @@ use Rattle.esp32.specs.Characterize.{topOf}
 use Rattle.esp32.specs.Decode.{decodeOf}
 use Rattle.esp32.specs.Decode.{numberOf as numberDecoded, valueOf as recordDecoded}
 use Rattle.line.specs.Convert.{convertOf}
-use Rattle.line.specs.Convert.{valueOf as millivoltsOf}
 use Rattle.s2_readings.specs.declared.tag.RtcCalibParam.{RtcCalibParam}
 use Rattle.s2_readings.specs.declared.tag.RtcCalibParam.the-variants.{Vhigh, Vinit}
 use Rattle.s2_readings.specs.Reading.{calibReadingOf}
@@ -64,7 +63,7 @@ a-and-b dump = decoded dump .«coeff_a» ∷ decoded dump .«coeff_b» ∷ []
 
 -- the millivolts of a count by the record of a zero dump, whose Vref is 1100
 abbrev converted : ℕ → ℕ
-converted raw = millivoltsOf (convertOf (decoded (filledWith 0)) raw)
+converted raw = voltageOf (convertOf (decoded (filledWith 0)) raw) .0
 
 -- t of unit 0's codes, and the number of the decoding
 abbrev top-and-number : ℕ → ℕ → List ℕ
@@ -96,7 +95,7 @@ compensation bits atten = readingValue (chanCompensOf eight (filledWith bits) ma
 
 -- the curve's answer to a line answer of 1 mV, at 11 dB
 abbrev corrected : Chip → ℕ → ℕ
-corrected chip unit = correctedTo (correctOf chip unit 3 (record { 0 = 1 })) .0
+corrected chip unit = voltageOf (correctOf chip unit 3 (record { 0 = 1 })) .0
 
 abbrev pub cases : List Case
 cases =

@@ -10,11 +10,11 @@ record-from-requires c κs = search needs
 convert-requires : tie.Need-convert-requires
 convert-requires c κs = search needs
 
-converted-c-requires : tie.Need-converted-c-requires
-converted-c-requires c κs = search needs
+voltage-c-requires : tie.Need-voltage-c-requires
+voltage-c-requires c κs = search needs
 
 returns : tie.Need-returns
-returns c = c .converted-c .ensures ∙ rw (c .before .convert .ensures, c .before .before .record-from .ensures)
+returns c = c .voltage-c .ensures ∙ rw (c .before .convert .ensures, c .before .before .record-from .ensures)
 
 pub skv-convert-spec : {M : Type 1} → statement M
-skv-convert-spec = tie.close (tie.spec record-from-requires convert-requires converted-c-requires returns)
+skv-convert-spec = tie.close (tie.spec record-from-requires convert-requires voltage-c-requires returns)

@@ -1,50 +1,22 @@
--- `line::lut_slope` meets its contract: it has the points around the count, between which each count adds the same.
--- Assumes nothing.
-use native.Mathlib.Omega.{arith}
+-- `line::lut_slope` meets its contract: the test says whether the lookup has the count. Assumes nothing.
+use mathlib.Core.Path.{sym, _∙_}
 use borrow.Author.Needs.{needs}
-use Rattle.line.proofs.Records.{record-sound}
-use Rattle.line.proofs.Sums.{Around, around}
+use Rattle.line.proofs.Lookups.{has-lookup, slope-some, slope-none}
 use Rattle.line.proofs.lookup.lut_slope.Statement.{statement}
 use Rattle.line.proofs.lookup.lut_slope.Tie as tie
 
-sub-past : tie.Need-sub-past
-sub-past c = search needs
+has-lookup-requires : tie.Need-has-lookup-requires
+has-lookup-requires c κs = search needs
 
-point-requires : tie.Need-point-requires
-point-requires c κs = let ranges = record-sound _ (c .pre .0) in omega arith
-
-add-point : tie.Need-add-point
-add-point c = search needs
-
-point-requires-2 : tie.Need-point-requires-2
-point-requires-2 c κs = let ranges = record-sound _ (c .before .pre .0) in omega arith
-
--- the two points
-points : (c : tie.After-point2)
-    → let a = c .before .before .args in
-    let p = c .before .before .pre in
-    Around (a .cal) (record-sound _ (p .0)) (a .raw) (p .1) (c .before .point .result) (c .point2 .result)
-points c =
-    let p = c .before .before .pre in
-    around _ (record-sound _ (p .0)) _ (p .1) (p .2) (c .before .point .ensures) (c .point2 .ensures)
-
-lut-sum-requires : tie.Need-lut-sum-requires
-lut-sum-requires c κs = let p = points c in omega arith
-
-sub-t10 : tie.Need-sub-t10
-sub-t10 c = points (c .before) .order
+step-slope-requires : tie.Need-step-slope-requires
+step-slope-requires c κs = has-lookup _ _ (sym (c .before .has-lookup .ensures) ∙ c .if1 .taken)
 
 returns : tie.Need-returns
-returns c = rw (c .lut-sum .ensures) (record { sums = points (c .before) .sums })
+returns c =
+    c .step-slope .ensures ∙ slope-some _ _ (sym (c .before .before .has-lookup .ensures) ∙ c .before .if1 .taken)
+
+returns-2 : tie.Need-returns-2
+returns-2 c = slope-none _ _ (sym (c .before .has-lookup .ensures) ∙ c .if1 .left)
 
 pub lut-slope-spec : {M : Type 1} → statement M
-lut-slope-spec =
-    tie.close
-    (tie.spec
-    sub-past
-    point-requires
-    add-point
-    point-requires-2
-    lut-sum-requires
-    sub-t10
-    returns)
+lut-slope-spec = tie.close (tie.spec has-lookup-requires step-slope-requires returns returns-2)

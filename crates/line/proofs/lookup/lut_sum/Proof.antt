@@ -1,15 +1,13 @@
 -- `line::lut_sum` meets its contract: points are small. Assumes nothing.
-use Prim.Native.Nat.{_+_, _*_, _-_, _≤_}
+use Prim.Native.Nat.{_+_, _*_, _-_, _%_, _≤_}
 use native.Mathlib.Omega.{arith}
 use borrow.Author.Needs.{needs}
-use Rattle.line.proofs.Sums.{mean-most}
+use Rattle.lut.proofs.Sums.{mean-most}
 use Rattle.line.proofs.lookup.lut_sum.Statement.{statement}
 use Rattle.line.proofs.lookup.lut_sum.Tie as tie
 
-small : (c : tie.Start) → let a = c .args in a .here * (64 - a .place) + a .there * a .place ≤ 642545 * 64
-small c =
-    let p = c .pre in
-    mean-most _ _ 642545 _ (p .0) (p .1) (p .2)
+small : (c : tie.Start) → let a = c .args in a .here * (64 - a .raw % 64) + a .there * (a .raw % 64) ≤ 642545 * 64
+small c = mean-most _ _ 642545 _ (c .pre .0) (c .pre .1) (omega arith)
 
 sub-result : tie.Need-sub-result
 sub-result c = search needs
@@ -31,5 +29,4 @@ returns c = search needs
 
 pub lut-sum-spec : {M : Type 1} → statement M
 lut-sum-spec =
-    tie.close
-    (tie.spec sub-result mul-result mul-result-2 add-result add-result-2 returns)
+    tie.close (tie.spec sub-result mul-result mul-result-2 add-result add-result-2 returns)

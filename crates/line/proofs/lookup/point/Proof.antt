@@ -1,9 +1,20 @@
 -- `line::point` meets its contract: by the tables' rules no difference is below zero, and all is small. Assumes nothing.
+use Prim.Native.Nat.{_+_, _-_, _/_}
 use native.Mathlib.Omega.{arith}
 use borrow.Author.Needs.{needs}
-use Rattle.line.proofs.Points.{Made, point-made}
+use Rattle.lut.proofs.Points.{Made, point-made}
+use Rattle.line.proofs.Records.{record-sound}
 use Rattle.line.proofs.lookup.point.Statement.{statement}
 use Rattle.line.proofs.lookup.point.Tie as tie
+
+sub-k : tie.Need-sub-k
+sub-k c = search needs
+
+add-k : tie.Need-add-k
+add-k c = search needs
+
+cast-lut-row : tie.Need-cast-lut-row
+cast-lut-row c = search needs
 
 mul-lut-row : tie.Need-mul-lut-row
 mul-lut-row c = search needs
@@ -17,10 +28,10 @@ lut-row-requires c κs = search needs
 -- the row's two numbers
 made : (c : tie.After-lut-row)
     → let a = c .before .args in
-    Made (a .unit) (a .vref) (a .k) (c .lut-row .result .0) (c .lut-row .result .1)
+    Made (a .cal .unit) (a .cal .vref) ((a .raw - 2880) / 64 + a .next) (c .lut-row .result .0) (c .lut-row .result .1)
 made c =
-    let p = c .before .pre in
-    point-made _ _ _ (p .0) (p .2) (p .1) (c .lut-row .ensures .0) (c .lut-row .ensures .1)
+    let ranges = record-sound _ (c .before .pre .0) in
+    point-made _ _ _ (ranges .unit) (omega arith) (ranges .vref-most) (c .lut-row .ensures)
 
 sub-rise : tie.Need-sub-rise
 sub-rise c = made c .order
@@ -47,6 +58,9 @@ pub point-spec : {M : Type 1} → statement M
 point-spec =
     tie.close
     (tie.spec
+    sub-k
+    add-k
+    cast-lut-row
     mul-lut-row
     add-lut-row
     lut-row-requires

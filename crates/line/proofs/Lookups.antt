@@ -1,0 +1,50 @@
+-- Laws of a record's lookup: where it has a count, and that there its slope goes on to the next point. Assumes nothing.
+use mathlib.Core.Path.{_≡_}
+use mathlib.Core.Bool.{true, false, _&&_}
+use Prim.Native.Nat.{ℕ, _+_, _-_, _/_, _≤_, _<_}
+use lib.Dec.{leb, eqb}
+use borrow.Author.Tests.{eqb-true, ne-eqb, leb-true, le-leb, lt-leb}
+use Rattle.terms.proofs.Refusals.{and-true}
+use Rattle.lut.specs.Point.{pointAt}
+use Rattle.lut.proofs.Sums.{Around, around}
+use Rattle.line.specs.declared.record.LineRecord.{LineRecord}
+use Rattle.line.specs.Record.{recordRefusal}
+use Rattle.line.specs.Lookup.{hasLookup, slopeFrom, lutSlope}
+use Rattle.line.proofs.Records.{record-sound}
+
+module _ (r : LineRecord) (raw : ℕ) where
+  -- which case it is
+  pub has-record : (recordRefusal r ≡ 0 → ⊥) → hasLookup r raw ≡ false
+  unfolding hasLookup
+  has-record some = simp (ne-eqb _ _ some)
+
+  pub has-below : recordRefusal r ≡ 0 → raw < 2880 → hasLookup r raw ≡ false
+  unfolding hasLookup
+  has-below good h = simp (good, lt-leb _ _ h)
+
+  pub has-from : recordRefusal r ≡ 0 → 2880 ≤ raw → hasLookup r raw ≡ leb raw 4095
+  unfolding hasLookup
+  has-from good l = simp (good, le-leb _ _ l)
+
+  -- what is known where it has the count
+  pub has-lookup : hasLookup r raw ≡ true → (recordRefusal r ≡ 0) × (2880 ≤ raw) × (raw ≤ 4095)
+  unfolding hasLookup
+  has-lookup e =
+      let p = and-true (eqb (recordRefusal r) 0 && leb 2880 raw) (leb raw 4095) e in
+      let q = and-true (eqb (recordRefusal r) 0) (leb 2880 raw) (p .0) in
+      (eqb-true _ _ (q .0), leb-true _ _ (q .1), leb-true _ _ (p .1))
+
+  -- the points around it
+  pub points : (p : (recordRefusal r ≡ 0) × (2880 ≤ raw) × (raw ≤ 4095)) → {here there : ℕ}
+      → here ≡ pointAt (r .unit) (r .vref) ((raw - 2880) / 64 + 0) → there ≡ pointAt (r .unit) (r .vref) ((raw - 2880) / 64 + 1)
+      → Around (r .unit) (r .vref) raw (p .1) here there
+  points p h t = let ranges = record-sound r (p .0) in around _ _ raw (p .1) (ranges .vref-least) (ranges .vref-most) (p .2) h t
+
+  -- the slope's two cases
+  pub slope-some : hasLookup r raw ≡ true → slopeFrom r raw ≡ lutSlope r raw
+  unfolding lutSlope
+  slope-some e = rw e
+
+  pub slope-none : hasLookup r raw ≡ false → record { sum = 0; rise = 0 } ≡ lutSlope r raw
+  unfolding lutSlope
+  slope-none e = rw e

@@ -1,0 +1,2 @@
+// The lookup's tables.
+pub mod row;
