@@ -33,8 +33,14 @@ fn stop(why: &str) -> ! {
 }
 
 fn main() {
-    println!("cargo:rerun-if-env-changed={NAMED}");
+    for name in [NAMED, "PKG_CONFIG_PATH", "PKG_CONFIG_LIBDIR"] {
+        println!("cargo:rerun-if-env-changed={name}");
+    }
     if let Some(folder) = env::var_os(NAMED).map(PathBuf::from) {
+        // cargo runs this in the crate's folder, and not where the caller stands
+        if folder.is_relative() {
+            stop(&format!("{NAMED} is {}: give the whole path, from / on", folder.display()));
+        }
         let Some(kind) = kind(&folder) else {
             stop(&format!("{NAMED} is {}, and no libsuongkivat.a is there", folder.display()))
         };

@@ -21,8 +21,9 @@ macro_rules! refusals {
             /// The refusals that the crate knows, in the order of their numbers.
             pub const ALL: &'static [Self] = &[$(Self::$name),*];
 
-            /// The refusal of a number that is one.
+            /// The refusal of a number that is one. Kept out of line, so that callers on the good way carry nothing of it.
             #[cold]
+            #[inline(never)]
             const fn numbered(number: u8) -> Self {
                 match number {
                     $($number => Self::$name,)*
