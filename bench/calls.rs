@@ -3,7 +3,8 @@
 use std::ffi::{c_char, c_int, c_void, CString};
 use std::mem;
 
-use crate::suongkivat::raw::{SkvCount, SkvDecoded, SkvField, SkvLineRecord, SkvMillivolt, SkvOutcome, SkvRead, SkvVoltage};
+use suongkivat::raw::{SkvDecoded, SkvOutcome, SkvRead, SkvVoltage};
+use suongkivat::{Count, Field, LineRecord, Millivolt};
 
 extern "C" {
     fn dlopen(path: *const c_char, flags: c_int) -> *mut c_void;
@@ -12,12 +13,12 @@ extern "C" {
 
 const RTLD_NOW: c_int = 2;
 
-pub type ReadField = extern "C" fn(*const u32, usize, SkvField) -> SkvRead;
+pub type ReadField = extern "C" fn(*const u32, usize, Field) -> SkvRead;
 pub type Decode = extern "C" fn(*const u32, usize, *const u8, usize, u8, u8) -> SkvDecoded;
 pub type NewCal = extern "C" fn(u8, u8) -> SkvDecoded;
-pub type Convert = extern "C" fn(SkvLineRecord, SkvCount) -> SkvVoltage;
-pub type Fill = extern "C" fn(SkvLineRecord, SkvCount, *mut u16, usize) -> SkvOutcome;
-pub type Correct = extern "C" fn(u8, u8, u8, u8, SkvMillivolt) -> SkvVoltage;
+pub type Convert = extern "C" fn(LineRecord, Count) -> SkvVoltage;
+pub type Fill = extern "C" fn(LineRecord, Count, *mut u16, usize) -> SkvOutcome;
+pub type Correct = extern "C" fn(u8, u8, u8, u8, Millivolt) -> SkvVoltage;
 type Load = extern "C" fn(*const u32, u8);
 
 struct Object(*mut c_void);

@@ -7,13 +7,8 @@ use esp32::efuse::Home;
 use esp32::peripherals::{ADC1, ADC2};
 use oracle::line::Record;
 use oracle::rules;
-
-#[allow(dead_code)]
-#[path = "../examples/rust/suongkivat.rs"]
-mod suongkivat;
-use suongkivat::raw::{
-    SkvCount, SkvDecoded, SkvField, SkvLineRecord, SkvMillivolt, SkvOutcome, SkvRead, SkvRefusal, SkvVoltage,
-};
+use suongkivat::raw::{SkvDecoded, SkvOutcome, SkvRead, SkvRefusal, SkvVoltage};
+use suongkivat::{Count, Field, LineRecord, Millivolt, Unit};
 
 const NONE: SkvRefusal = SkvRefusal { number: 0 };
 
@@ -29,7 +24,7 @@ pub unsafe extern "C" fn load(dump: *const u32, minor: u8) {
 macro_rules! read_field {
     ($name:ident, $width:ty) => {
         #[no_mangle]
-        pub extern "C" fn $name(_dump: *const u32, _dump_len: usize, field: SkvField) -> SkvRead {
+        pub extern "C" fn $name(_dump: *const u32, _dump_len: usize, field: Field) -> SkvRead {
             let field = esp32::reach::field(field.block.into(), field.bit_start.into(), field.bit_count.into());
             SkvRead { refusal: NONE, value: esp32::efuse::read_field_le::<$width>(field).into() }
         }
@@ -42,7 +37,7 @@ read_field!(skv_read_field_u32, u32);
 
 fn decoded<ADCX>(line: AdcCalLine<ADCX>) -> SkvDecoded {
     let (coeff_a, coeff_b, vref, unit, use_lut) = line.taken_apart();
-    SkvDecoded { refusal: NONE, record: SkvLineRecord { coeff_a, coeff_b, vref, unit, use_lut: use_lut.into() } }
+    SkvDecoded { refusal: NONE, record: LineRecord { coeff_a, coeff_b, vref, unit: Unit(unit), use_lut: use_lut.into() } }
 }
 
 /// `new_cal`, with its fields where they stand in esp-hal.
@@ -70,31 +65,31 @@ pub unsafe extern "C" fn skv_decode(
     new_cal(unit, atten)
 }
 
-fn record(cal: SkvLineRecord) -> Record {
-    let SkvLineRecord { coeff_a, coeff_b, vref, unit, use_lut } = cal;
+fn record(cal: LineRecord) -> Record {
+    let LineRecord { coeff_a, coeff_b, vref, unit: Unit(unit), use_lut } = cal;
     Record { coeff_a, coeff_b, vref, unit, use_lut: use_lut != 0 }
 }
 
 /// `adc_val`.
 #[no_mangle]
-pub extern "C" fn skv_convert(cal: SkvLineRecord, count: SkvCount) -> SkvVoltage {
-    SkvVoltage { refusal: NONE, voltage: SkvMillivolt { mv: record(cal).line().adc_val(count.raw) } }
+pub extern "C" fn skv_convert(cal: LineRecord, count: Count) -> SkvVoltage {
+    SkvVoltage { refusal: NONE, voltage: Millivolt(record(cal).line().adc_val(count.0)) }
 }
 
 /// The same with the two tests in front that ours makes too, as Rust writes them.
 #[no_mangle]
-pub extern "C" fn tested_convert(cal: SkvLineRecord, count: SkvCount) -> SkvVoltage {
-    match rules::record(record(cal)).and_then(|()| rules::raw(count.raw)) {
+pub extern "C" fn tested_convert(cal: LineRecord, count: Count) -> SkvVoltage {
+    match rules::record(record(cal)).and_then(|()| rules::raw(count.0)) {
         Ok(()) => skv_convert(cal, count),
-        Err(number) => SkvVoltage { refusal: SkvRefusal { number }, voltage: SkvMillivolt { mv: 0 } },
+        Err(number) => SkvVoltage { refusal: SkvRefusal { number }, voltage: Millivolt(0) },
     }
 }
 
 /// `adc_val` of one count after the other.
 #[no_mangle]
-pub unsafe extern "C" fn skv_fill(cal: SkvLineRecord, first: SkvCount, out: *mut u16, out_len: usize) -> SkvOutcome {
+pub unsafe extern "C" fn skv_fill(cal: LineRecord, first: Count, out: *mut u16, out_len: usize) -> SkvOutcome {
     let line = record(cal).line();
-    for (raw, out) in (first.raw..).zip(slice::from_raw_parts_mut(out, out_len)) {
+    for (raw, out) in (first.0..).zip(slice::from_raw_parts_mut(out, out_len)) {
         *out = line.adc_val(raw);
     }
     SkvOutcome { refusal: NONE }
@@ -109,19 +104,19 @@ macro_rules! corrected {
 }
 
 #[no_mangle]
-pub extern "C" fn skv_correct(chip: u8, _minor: u8, unit: u8, atten: u8, line: SkvMillivolt) -> SkvVoltage {
+pub extern "C" fn skv_correct(chip: u8, _minor: u8, unit: u8, atten: u8, line: Millivolt) -> SkvVoltage {
     let mv = match (chip, unit) {
-        (2, 0) => corrected!(esp32c3, ADC1, atten, line.mv),
-        (2, 1) => corrected!(esp32c3, ADC2, atten, line.mv),
-        (3, 0) => corrected!(esp32c5, ADC1, atten, line.mv),
-        (4, 0) => corrected!(esp32c6, ADC1, atten, line.mv),
-        (5, 0) => corrected!(esp32c61, ADC1, atten, line.mv),
-        (6, 0) => corrected!(esp32h2, ADC1, atten, line.mv),
-        (7, 0) => corrected!(esp32p4, ADC1, atten, line.mv),
-        (7, 1) => corrected!(esp32p4, ADC2, atten, line.mv),
-        (8, 0) => corrected!(esp32s3, ADC1, atten, line.mv),
-        (8, 1) => corrected!(esp32s3, ADC2, atten, line.mv),
+        (2, 0) => corrected!(esp32c3, ADC1, atten, line.0),
+        (2, 1) => corrected!(esp32c3, ADC2, atten, line.0),
+        (3, 0) => corrected!(esp32c5, ADC1, atten, line.0),
+        (4, 0) => corrected!(esp32c6, ADC1, atten, line.0),
+        (5, 0) => corrected!(esp32c61, ADC1, atten, line.0),
+        (6, 0) => corrected!(esp32h2, ADC1, atten, line.0),
+        (7, 0) => corrected!(esp32p4, ADC1, atten, line.0),
+        (7, 1) => corrected!(esp32p4, ADC2, atten, line.0),
+        (8, 0) => corrected!(esp32s3, ADC1, atten, line.0),
+        (8, 1) => corrected!(esp32s3, ADC2, atten, line.0),
         _ => panic!("no curve for chip {chip}, unit {unit}"),
     };
-    SkvVoltage { refusal: NONE, voltage: SkvMillivolt { mv } }
+    SkvVoltage { refusal: NONE, voltage: Millivolt(mv) }
 }

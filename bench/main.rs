@@ -1,10 +1,8 @@
 //! main OURS RELEASE CHECKED WHOLE: times the calls of four shared objects on the same inputs, and prints a table. `bench/run` builds
 //! them.
+mod binding;
 mod calls;
 mod rows;
-#[allow(dead_code)]
-#[path = "../examples/rust/suongkivat.rs"]
-mod suongkivat;
 mod timing;
 
 use rows::{Bench, Held, Row};

@@ -1,27 +1,27 @@
 //! The rows of the table: what is timed, on which inputs, against what, with which bar.
 use std::fs;
 
+use suongkivat::raw::{SkvDecoded, SkvOutcome, SkvRead, SkvRefusal, SkvVoltage};
+use suongkivat::{Count, Field, LineRecord, Millivolt, Unit};
+
 use crate::calls::{Calls, Crate, ReadField};
-use crate::suongkivat::raw::{
-    SkvCount, SkvDecoded, SkvField, SkvLineRecord, SkvMillivolt, SkvOutcome, SkvRead, SkvRefusal, SkvVoltage,
-};
 use crate::timing::{contest, Outcome, Ratio, Way};
 
-const COUNTS: u16 = 4096;
+pub const COUNTS: u16 = 4096;
 
 /// Where the lookup alone answers.
 const LOOKUP_FIRST: u16 = 2945;
 
 const STRETCH: usize = 64;
 
-const DB11: u8 = 3;
+pub const DB11: u8 = 3;
 
 /// The overflow-checked build is to be beaten.
 const BEATEN: f64 = 0.99;
 
 const NONE: SkvRefusal = SkvRefusal { number: 0 };
-const NO_VOLTAGE: SkvVoltage = SkvVoltage { refusal: NONE, voltage: SkvMillivolt { mv: 0 } };
-const NO_RECORD: SkvLineRecord = SkvLineRecord { coeff_a: 0, coeff_b: 0, vref: 0, unit: 0, use_lut: 0 };
+const NO_VOLTAGE: SkvVoltage = SkvVoltage { refusal: NONE, voltage: Millivolt(0) };
+const NO_RECORD: LineRecord = LineRecord { coeff_a: 0, coeff_b: 0, vref: 0, unit: Unit(0), use_lut: 0 };
 
 /// A ratio, and the bar that it is held to.
 pub struct Held {
@@ -50,13 +50,13 @@ pub struct Row {
 type Work<'a, A> = &'a dyn Fn(&Calls, &mut [A]);
 
 pub struct Bench {
-    ours: Calls,
+    pub ours: Calls,
     release: Crate,
     checked: Crate,
     whole: Crate,
-    field: [u32; 88],
+    pub field: [u32; 88],
     reference: [u32; 88],
-    map: Vec<u8>,
+    pub map: Vec<u8>,
 }
 
 fn file(name: &str) -> Vec<u8> {
@@ -70,16 +70,21 @@ fn dump(name: &str) -> [u32; 88] {
 }
 
 /// Fields of up to so many bits, all over a dump.
-fn fields(width: u16) -> Vec<SkvField> {
+pub fn fields(width: u16) -> Vec<Field> {
     let field = |i: u16| {
         let bit_count = 1 + (11 * i) % width;
-        SkvField { block: (i % 11) as u8, bit_start: (37 * i) % (257 - bit_count), bit_count }
+        Field { block: (i % 11) as u8, bit_start: (37 * i) % (257 - bit_count), bit_count }
     };
     (0..1024).map(field).collect()
 }
 
+/// A dump of mixed bits.
+pub fn mixed_dump() -> [u32; 88] {
+    std::array::from_fn(|k| (k as u32 + 1).wrapping_mul(0x9E37_79B9))
+}
+
 /// A work of ours against another way to the same answers.
-fn one<A: Clone + PartialEq>(work: String, against: &'static str, bar: Option<f64>, blank: &[A], ways: [Way<A>; 2]) -> Row {
+pub fn one<A: Clone + PartialEq>(work: String, against: &'static str, bar: Option<f64>, blank: &[A], ways: [Way<A>; 2]) -> Row {
     let Outcome { nanoseconds, mut ratios } = contest(&work, blank, ways[0], &[ways[1]]);
     let release = Held { ratio: ratios.remove(0), bar };
     Row { work, against, nanoseconds, release, checked: None, whole: None }
@@ -121,7 +126,7 @@ impl Bench {
 
     /// Fields of a dump of mixed bits.
     fn read_field(&self, width: u16, read: fn(&Calls) -> ReadField) -> Row {
-        let dump: [u32; 88] = std::array::from_fn(|k| (k as u32 + 1).wrapping_mul(0x9E37_79B9));
+        let dump = mixed_dump();
         self.load(&dump);
         let fields = fields(width);
         let blank = vec![SkvRead { refusal: NONE, value: 0 }; fields.len()];
@@ -155,11 +160,11 @@ impl Bench {
     }
 
     /// The field board's record of unit 0 at 11 dB, with the lookup or without.
-    fn record(&self, lookup: bool) -> SkvLineRecord {
+    pub fn record(&self, lookup: bool) -> LineRecord {
         let dump = &self.field;
         let decoded = (self.ours.decode)(dump.as_ptr(), dump.len(), self.map.as_ptr(), self.map.len(), 0, DB11);
         assert_eq!(decoded.refusal, NONE);
-        SkvLineRecord { use_lut: lookup.into(), ..decoded.record }
+        LineRecord { use_lut: lookup.into(), ..decoded.record }
     }
 
     /// Counts rising from a first one on.
@@ -169,7 +174,7 @@ impl Bench {
         let blank = vec![NO_VOLTAGE; usize::from(COUNTS - first)];
         let how: Work<SkvVoltage> = &|calls, out| {
             for (raw, out) in (first..).zip(out) {
-                *out = (calls.convert)(record, SkvCount { raw });
+                *out = (calls.convert)(record, Count(raw));
             }
         };
         let plain = self.all(work.clone(), [Some(bar), Some(BEATEN)], &blank, how);
@@ -184,7 +189,7 @@ impl Bench {
         let blank = vec![0; usize::from(COUNTS)];
         let how: Work<u16> = &|calls, out| {
             for (k, part) in out.chunks_mut(stretch).enumerate() {
-                let first = SkvCount { raw: (stretch * k) as u16 };
+                let first = Count((stretch * k) as u16);
                 assert_eq!((calls.fill)(record, first, part.as_mut_ptr(), part.len()), SkvOutcome { refusal: NONE });
             }
         };
@@ -205,7 +210,7 @@ impl Bench {
         let blank = vec![NO_VOLTAGE; usize::from(COUNTS)];
         self.all(format!("curve, {name}"), [Some(1.35), None], &blank, &|calls, out| {
             for (mv, out) in (0..).zip(out) {
-                *out = (calls.correct)(chip, 2, unit, atten, SkvMillivolt { mv });
+                *out = (calls.correct)(chip, 2, unit, atten, Millivolt(mv));
             }
         })
     }
@@ -243,6 +248,7 @@ impl Bench {
         rows.extend(self.fill("stretches of 64, lookup", true, STRETCH, 0.30, None));
         rows.extend(self.fill("stretches of 64, no lookup", false, STRETCH, 0.30, None));
         rows.extend(self.curves());
+        rows.extend(self.binding());
         rows
     }
 }

@@ -1,54 +1,50 @@
 //! Suongkivat from Rust: the records of two boards, a few counts by each, and a log's samples as the desk program answers them. Run in
-//! a folder with field.bin, reference.bin, map.bin and samples.bin; examples/run builds it.
-#[allow(dead_code)] // the wrapper has more than is shown here
-mod suongkivat;
-
+//! a folder with field.bin, reference.bin, map.bin and samples.bin; examples/run builds it with the crate of bindings/rust.
 use std::fs;
 
-use suongkivat::{Answer, Count, LineRecord, Log, Millivolt, Session};
+use suongkivat::{dump_from_bytes, Answer, Attenuation, Board, Count, Log, Millivolt, Refusal, Session, Unit};
 
 /// A file's bytes; a missing one counts as empty.
 fn load(name: &str) -> Vec<u8> {
     fs::read(name).unwrap_or_default()
 }
 
-/// A dump file has 88 words, low byte first; one of another length is a dump without words, which each call refuses.
+/// A dump file has 352 bytes; one of another length is a dump without words, which each call refuses.
 fn load_dump(name: &str) -> Vec<u32> {
-    let bytes = load(name);
-    let words = bytes.chunks_exact(4).map(|word| u32::from_le_bytes([word[0], word[1], word[2], word[3]]));
-    if bytes.len() == 352 {
-        words.collect()
-    } else {
-        Vec::new()
-    }
+    dump_from_bytes(&load(name)).map_or(Vec::new(), Vec::from)
+}
+
+/// As the desk program says it; the refusal's own `Display` has the words.
+fn refused(refusal: Refusal) -> String {
+    format!("refused {}", refusal.number())
 }
 
 fn told(answer: Answer<Millivolt>) -> String {
-    answer.map_or_else(|refusal| refusal.to_string(), |voltage| voltage.0.to_string())
+    answer.map_or_else(refused, |voltage| voltage.0.to_string())
 }
 
 /// A board's record for a unit and an attenuation, and what it makes of a few counts.
-fn print_record(board: char, dump: &[u32], map: &[u8], unit: u8, atten: u8) {
-    print!("record {board}, unit {unit}, attenuation {atten}: ");
-    match LineRecord::decode(dump, map, unit, atten) {
-        Err(refusal) => println!("{refusal}"),
-        Ok(cal) => {
-            let (a, b, vref, lookup) = (cal.coeff_a(), cal.coeff_b(), cal.vref().0, cal.uses_lookup() as u8);
+fn print_record(name: char, board: Board, unit: Unit, attenuation: Attenuation) {
+    print!("record {name}, unit {}, attenuation {}: ", unit.0, attenuation.0);
+    match board.record(unit, attenuation) {
+        Err(refusal) => println!("{}", refused(refusal)),
+        Ok(record) => {
+            let (a, b, vref, lookup) = (record.coeff_a, record.coeff_b, record.vref, u8::from(record.uses_lookup()));
             println!("a {a}, b {b}, Vref {vref}, lookup {lookup}");
-            for count in [0, 2880, 2912, 4095, 4096] {
-                println!("count {count}: {}", told(cal.convert(Count(count))));
+            for count in [0, 2880, 2912, 4095, 4096].map(Count) {
+                println!("count {count}: {}", told(record.convert(count)));
             }
         }
     }
 }
 
-fn print_log(log: Log, boards: Session) {
+fn print_log(log: Log, session: Session, map: &[u8]) {
     for (k, sample) in log.enumerate() {
         match sample {
-            Err(refusal) => println!("{refusal}"),
+            Err(refusal) => println!("{}", refused(refusal)),
             Ok(sample) => {
                 let board = ['F', 'R'].get(usize::from(sample.board)).unwrap_or(&'?');
-                println!("{k} {board} {} {}", sample.raw.0, told(boards.sample(sample)));
+                println!("{k} {board} {} {}", sample.raw, told(session.sample(map, sample)));
             }
         }
     }
@@ -57,8 +53,8 @@ fn print_log(log: Log, boards: Session) {
 fn main() {
     let (field, reference) = (load_dump("field.bin"), load_dump("reference.bin"));
     let (map, log) = (load("map.bin"), load("samples.bin"));
-    print_record('F', &field, &map, 0, 3);
-    print_record('F', &field, &map, 1, 0);
-    print_record('R', &reference, &map, 0, 3);
-    print_log(Log(&log), Session { field: &field, reference: &reference, map: &map });
+    print_record('F', Board { dump: &field, map: &map }, Unit::ADC1, Attenuation::DB_11);
+    print_record('F', Board { dump: &field, map: &map }, Unit::ADC2, Attenuation::DB_0);
+    print_record('R', Board { dump: &reference, map: &map }, Unit::ADC1, Attenuation::DB_11);
+    print_log(Log::new(&log), Session { field: &field, reference: &reference }, &map);
 }

@@ -1,7 +1,7 @@
 //! One comparison from a call's name and its input: what an input is made smaller with.
 use oracle::fields::Field;
+use suongkivat::{Count, LineRecord, Sample, Unit};
 
-use crate::exports::{SkvLineRecord, SkvSample};
 use crate::input::Input;
 use crate::library::Library;
 use crate::smaller::smallest;
@@ -17,13 +17,13 @@ impl Input {
         (self.value("unit"), self.value("attenuation"))
     }
 
-    fn record(&self) -> SkvLineRecord {
+    fn record(&self) -> LineRecord {
         let (coeff_a, coeff_b, vref) = (self.value("a"), self.value("b"), self.value("vref"));
-        SkvLineRecord { coeff_a, coeff_b, vref, unit: self.value("unit"), use_lut: self.value("lookup") }
+        LineRecord { coeff_a, coeff_b, vref, unit: Unit(self.value("unit")), use_lut: self.value("lookup") }
     }
 
-    fn sample(&self) -> SkvSample {
-        SkvSample { raw: self.value("raw"), board: self.value("board"), last: self.value("last byte") }
+    fn sample(&self) -> Sample {
+        Sample { raw: Count(self.value("raw")), board: self.value("board"), last: self.value("last byte") }
     }
 }
 

@@ -1,13 +1,13 @@
 //! ESP32 line calibration: converting.
 use oracle::answers;
 use oracle::noise::Noise;
+use suongkivat::LineRecord;
 
-use crate::exports::SkvLineRecord;
 use crate::library::Library;
 use crate::records;
 use crate::tally::{Compared, Tally, told};
 
-pub fn convert_one(library: &Library, tally: &mut Tally, record: SkvLineRecord, raw: u16) -> Compared {
+pub fn convert_one(library: &Library, tally: &mut Tally, record: LineRecord, raw: u16) -> Compared {
     let input = || records::input(record).number("raw", raw);
     tally.same("convert", input, (library.convert)(record, raw), || told(answers::convert(records::crates(record), raw)))
 }

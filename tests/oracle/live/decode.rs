@@ -8,14 +8,14 @@ use oracle::{answers, dumps};
 
 use crate::input::Input;
 use crate::library::Library;
-use crate::records::c_record;
+use crate::records::our_record;
 use crate::strewn::{Strewn, good_units_and_attens, strewn, units_and_attens};
 use crate::tally::{Compared, Tally, told};
 
 pub fn decode(library: &Library, tally: &mut Tally, dump: &[u32], map: &[u8], (unit, atten): (u8, u8)) -> Compared {
     let input = || Input::default().number("unit", unit).number("attenuation", atten).dump(dump).map(map);
     let ours = (library.decode)(dump, map, unit, atten);
-    tally.same("decode", input, ours, || told(answers::decode(dump, map, unit, atten).map(c_record)))
+    tally.same("decode", input, ours, || told(answers::decode(dump, map, unit, atten).map(our_record)))
 }
 
 /// Codes, each in a word of its own.

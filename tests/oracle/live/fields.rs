@@ -4,10 +4,10 @@ use oracle::noise::Noise;
 use oracle::rules::{Answer, number};
 use oracle::{Dump, answers, dumps};
 
-use crate::exports::{SkvField, SkvView, Told};
 use crate::input::Input;
 use crate::library::Library;
 use crate::tally::{Compared, Lent, Tally, outcome, told};
+use crate::told::{Told, View};
 
 /// Every start and count up to the first past a block's end, and some far ones.
 fn starts_and_counts() -> impl Iterator<Item = (u16, u16)> {
@@ -27,17 +27,13 @@ fn any_dumps(noise: &mut Noise) -> [Dump; 6] {
 /// Numbers of words that no dump has.
 pub const NO_DUMP: [u8; 5] = [0, 1, 87, 89, dumps::MOST_WORDS];
 
-pub fn c_field(field: Field) -> SkvField {
-    SkvField { block: field.block, bit_start: field.bit_start, bit_count: field.bit_count }
-}
-
 fn input(dump: &[u32], field: Field) -> Input {
     let input = Input::default().number("block", field.block).number("bit start", field.bit_start);
     input.number("bit count", field.bit_count).dump(dump)
 }
 
 /// The readings by width: the call's name, ours, and document 01's by the crate.
-type Width = (&'static str, fn(&[u32], SkvField) -> Told<u32>, fn(&[u32], Field) -> Answer<u32>);
+type Width = (&'static str, fn(&[u32], Field) -> Told<u32>, fn(&[u32], Field) -> Answer<u32>);
 
 fn widths(library: &Library) -> [Width; 3] {
     [
@@ -50,7 +46,7 @@ fn widths(library: &Library) -> [Width; 3] {
 /// A field at every width.
 pub fn read(library: &Library, tally: &mut Tally, dump: &[u32], field: Field) -> Compared {
     widths(library).into_iter().try_for_each(|(call, ours, wanted)| {
-        tally.same(call, || input(dump, field), ours(dump, c_field(field)), || told(wanted(dump, field)))
+        tally.same(call, || input(dump, field), ours(dump, field), || told(wanted(dump, field)))
     })
 }
 
@@ -77,7 +73,7 @@ const BEFORE: u8 = 0xA5;
 pub fn into_bytes(library: &Library, tally: &mut Tally, dump: &[u32], field: Field, n: usize) -> Compared {
     let behind = 8;
     let mut bytes = vec![BEFORE; n + behind];
-    let ours = (library.read_field_le)(dump, c_field(field), &mut bytes[..n]);
+    let ours = (library.read_field_le)(dump, field, &mut bytes[..n]);
     let wanted = || {
         let answer = answers::read_field_le(dump, field, n);
         let mut after = vec![BEFORE; n + behind];
@@ -110,7 +106,7 @@ pub fn view(library: &Library, tally: &mut Tally, [field, reference]: [&[u32]; 2
         let answer = answers::view(field, reference, board, block);
         let number = number(&answer);
         let answers::View { board, first, words } = answer.unwrap_or_default();
-        SkvView { number, board, first: first as u32, words: words as u32 }
+        View { number, board, first: first as u32, words: words as u32 }
     };
     tally.same("view", input, (library.view)(field, reference, board, block), wanted)
 }

@@ -1,23 +1,24 @@
 //! ESP32 line calibration: filling, at once and in stretches, and stretches that are turned down.
 use oracle::noise::Noise;
 use oracle::{Panic, answers, quietly};
+use suongkivat::{LineRecord, Millivolt};
 
-use crate::exports::{SkvLineRecord, SkvOutcome};
 use crate::input::Input;
 use crate::library::Library;
 use crate::records;
 use crate::tally::{Compared, Difference, Lent, Tally, outcome};
+use crate::told::Outcome;
 
 /// Numbers of a table.
 const TABLE: usize = 4096;
 
 /// What lent numbers are before a call.
-const BEFORE: u16 = 0xA5A5;
+const BEFORE: Millivolt = Millivolt(0xA5A5);
 
 /// From a count to the one before another.
 type Stretch = (usize, usize);
 
-fn input(record: SkvLineRecord, first: usize, n: usize) -> Input {
+fn input(record: LineRecord, first: usize, n: usize) -> Input {
     records::input(record).number("first count", first as u64).number("numbers lent", n as u64)
 }
 
@@ -39,11 +40,11 @@ fn covering(noise: &mut Noise) -> Vec<Stretch> {
 
 /// Fills a table, each stretch lent as the table's own part that starts at its first count. After each the whole table is looked at:
 /// the stretch has the crate's answers, and all else is as it was.
-fn fill_in(library: &Library, tally: &mut Tally, record: SkvLineRecord, crates: &[u16], stretches: &[Stretch]) -> Compared {
+fn fill_in(library: &Library, tally: &mut Tally, record: LineRecord, crates: &[Millivolt], stretches: &[Stretch]) -> Compared {
     let (mut table, mut wanted) = (vec![BEFORE; TABLE], vec![BEFORE; TABLE]);
     for (first, end) in stretches.iter().copied() {
         let ours = (library.fill)(record, first as u16, &mut table[first..end]);
-        tally.same("fill", || input(record, first, end - first), ours, || SkvOutcome { number: 0 })?;
+        tally.same("fill", || input(record, first, end - first), ours, || Outcome { number: 0 })?;
         wanted[first..end].copy_from_slice(&crates[first..end]);
         tally.same_table("fill", || input(record, first, end - first), [&table, &wanted], first..end)?;
     }
@@ -52,10 +53,11 @@ fn fill_in(library: &Library, tally: &mut Tally, record: SkvLineRecord, crates: 
 }
 
 /// The crate's whole table. Where the oracle stops, that is the difference.
-fn crates_table(record: SkvLineRecord) -> Result<Vec<u16>, Box<Difference>> {
+fn crates_table(record: LineRecord) -> Result<Vec<Millivolt>, Box<Difference>> {
     let table = quietly(|| answers::fill(records::crates(record), 0, TABLE).expect("a good record"));
     let difference = |wanted| Difference { call: "fill", input: input(record, 0, TABLE), ours: "not asked".into(), wanted };
-    table.map_err(|Panic(said)| Box::new(difference(said)))
+    let millivolts = |table: Vec<u16>| table.into_iter().map(Millivolt).collect();
+    table.map(millivolts).map_err(|Panic(said)| Box::new(difference(said)))
 }
 
 /// Every record's table at once, in halves, count by count for some, and in stretches.
@@ -74,13 +76,14 @@ pub fn fill(library: &Library, tally: &mut Tally, noise: &mut Noise) -> Compared
 }
 
 /// Lends the first n of some more numbers, and compares them all after the call.
-pub fn stretch(library: &Library, tally: &mut Tally, record: SkvLineRecord, first: u16, n: usize) -> Compared {
+pub fn stretch(library: &Library, tally: &mut Tally, record: LineRecord, first: u16, n: usize) -> Compared {
     let behind = 8;
     let mut numbers = vec![BEFORE; n + behind];
     let ours = (library.fill)(record, first, &mut numbers[..n]);
+    let numbers = numbers.into_iter().map(|Millivolt(mv)| mv).collect();
     let wanted = || {
         let answer = answers::fill(records::crates(record), first, n);
-        let mut after = vec![BEFORE; n + behind];
+        let mut after = vec![BEFORE.0; n + behind];
         answer.iter().for_each(|filled| after[..n].copy_from_slice(filled));
         Lent(outcome(&answer), after)
     };

@@ -3,19 +3,20 @@ use oracle::codes::Codes;
 use oracle::noise::Noise;
 use oracle::rules::{MapChip, number};
 use oracle::{Dump, answers};
+use suongkivat::{Count, Sample};
 
-use crate::exports::{SkvNext, SkvSample};
 use crate::input::Input;
 use crate::library::Library;
 use crate::strewn::{Strewn, plain_map, strewn};
 use crate::tally::{Compared, Tally, told};
+use crate::told::Next;
 
-fn wanted_next(log: &[u8]) -> SkvNext {
+fn wanted_next(log: &[u8]) -> Next {
     let answer = answers::next_sample(log);
     let number = number(&answer);
     let sample = answer.ok().flatten();
     let (raw, board, last) = sample.unwrap_or_default();
-    SkvNext { number, whole: sample.is_some().into(), sample: SkvSample { raw, board, last } }
+    Next { number, whole: sample.is_some().into(), sample: Sample { raw: Count(raw), board, last } }
 }
 
 pub fn next(library: &Library, tally: &mut Tally, log: &[u8]) -> Compared {
@@ -42,8 +43,8 @@ pub fn next_samples(library: &Library, tally: &mut Tally, noise: &mut Noise) -> 
 /// A field dump, a reference dump and a map.
 type Boards<'a> = (&'a [u32], &'a [u32], &'a [u8]);
 
-pub fn sample(library: &Library, tally: &mut Tally, (field, reference, map): Boards, sample: SkvSample) -> Compared {
-    let SkvSample { raw, board, last } = sample;
+pub fn sample(library: &Library, tally: &mut Tally, (field, reference, map): Boards, sample: Sample) -> Compared {
+    let Sample { raw: Count(raw), board, last } = sample;
     let input = || {
         let input = Input::default().number("raw", raw).number("board", board).number("last byte", last);
         input.dump(field).dump(reference).map(map)
@@ -69,7 +70,7 @@ pub fn samples(library: &Library, tally: &mut Tally, noise: &mut Noise) -> Compa
     let (field, reference) = (board(noise, 0), board(noise, 1));
     for (board, last) in (0..=255).flat_map(|board| (0..=255).map(move |last| (board, last))) {
         for raw in COUNTS {
-            sample(library, tally, (&field, &reference, &plain), SkvSample { raw, board, last })?;
+            sample(library, tally, (&field, &reference, &plain), Sample { raw: Count(raw), board, last })?;
         }
     }
     for _ in 0..1_000_000 {
@@ -81,7 +82,7 @@ pub fn samples(library: &Library, tally: &mut Tally, noise: &mut Noise) -> Compa
         let (board, last) = (noise.pick(&[0, 0, 1, 1, 2]), noise.below(9) as u8);
         let boards = if noise.once_in(2) { [&field[..], &plainly] } else { [&plainly[..], &field] };
         let map = if noise.once_in(2) { &map } else { &plain };
-        sample(library, tally, (boards[0], boards[1], map), SkvSample { raw, board, last })?;
+        sample(library, tally, (boards[0], boards[1], map), Sample { raw: Count(raw), board, last })?;
     }
     Ok(())
 }

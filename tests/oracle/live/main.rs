@@ -1,11 +1,10 @@
-//! The proved library, linked through its calls for C, against document 01 and the crate, in one process.
+//! The proved library, called through its binding for Rust, against document 01 and the crate, in one process.
 //! Exit 1 at the first difference; with --self-check, where a seeded fault is missed. With --fault the library has that fault.
 mod ask;
 mod c6;
 mod convert;
 mod curve;
 mod decode;
-mod exports;
 mod faults;
 mod fields;
 mod fill;
@@ -20,6 +19,7 @@ mod self_check;
 mod smaller;
 mod strewn;
 mod tally;
+mod told;
 
 use std::process::ExitCode;
 use std::time::{Duration, Instant};

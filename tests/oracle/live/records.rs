@@ -3,8 +3,8 @@ use oracle::codes::Codes;
 use oracle::line::Record;
 use oracle::noise::Noise;
 use oracle::{records, rules};
+use suongkivat::{LineRecord, Unit};
 
-use crate::exports::SkvLineRecord;
 use crate::input::Input;
 use crate::library::Library;
 use crate::strewn::good_units_and_attens;
@@ -14,37 +14,37 @@ use crate::tally::{Compared, Tally, outcome};
 const TWO_POINT: usize = 10_000;
 const BY_HAND: usize = 10_000;
 
-pub fn input(record: SkvLineRecord) -> Input {
-    let SkvLineRecord { coeff_a, coeff_b, vref, unit, use_lut } = record;
+pub fn input(record: LineRecord) -> Input {
+    let LineRecord { coeff_a, coeff_b, vref, unit, use_lut } = record;
     let input = Input::default().number("a", coeff_a).number("b", coeff_b).number("vref", vref);
-    input.number("unit", unit).number("lookup", use_lut)
+    input.number("unit", unit.0).number("lookup", use_lut)
 }
 
-pub fn c_record(record: Record) -> SkvLineRecord {
+pub fn our_record(record: Record) -> LineRecord {
     let Record { coeff_a, coeff_b, vref, unit, use_lut } = record;
-    SkvLineRecord { coeff_a, coeff_b, vref, unit, use_lut: use_lut.into() }
+    LineRecord { coeff_a, coeff_b, vref, unit: Unit(unit), use_lut: use_lut.into() }
 }
 
 /// The crate's record; any byte but 0 is a yes.
-pub fn crates(record: SkvLineRecord) -> Record {
-    let SkvLineRecord { coeff_a, coeff_b, vref, unit, use_lut } = record;
-    Record { coeff_a, coeff_b, vref, unit, use_lut: use_lut != 0 }
+pub fn crates(record: LineRecord) -> Record {
+    let LineRecord { coeff_a, coeff_b, vref, unit, use_lut } = record;
+    Record { coeff_a, coeff_b, vref, unit: unit.0, use_lut: use_lut != 0 }
 }
 
 /// A record anywhere inside its ranges.
-fn made_by_hand(noise: &mut Noise) -> SkvLineRecord {
-    SkvLineRecord {
+fn made_by_hand(noise: &mut Noise) -> LineRecord {
+    LineRecord {
         coeff_a: noise.within(0, 131071),
         coeff_b: noise.within(0, 4095),
         vref: noise.within(995, 1205),
-        unit: noise.below(2) as u8,
+        unit: Unit(noise.below(2) as u8),
         use_lut: noise.pick(&[0, 1, 1, 2, 255]),
     }
 }
 
 /// Every Vref record, and records of two-point codes and made by hand.
-pub fn all(noise: &mut Noise) -> Vec<SkvLineRecord> {
-    let decoded = |codes: Codes, unit, atten| codes.decoded(unit, atten).ok().map(c_record);
+pub fn all(noise: &mut Noise) -> Vec<LineRecord> {
+    let decoded = |codes: Codes, unit, atten| codes.decoded(unit, atten).ok().map(our_record);
     let none = Codes { vref: 0, reserve: 0, low: [0; 2], high: [0; 2] };
     let mut all = Vec::new();
     for vref in 0..32 {
@@ -55,17 +55,17 @@ pub fn all(noise: &mut Noise) -> Vec<SkvLineRecord> {
         let (unit, atten) = (noise.below(2) as u8, noise.pick(&[0, 1, 2, 3, 3, 3]));
         all.extend(decoded(Codes::any(noise, 1), unit, atten));
     }
-    all.extend(records::made(noise).into_iter().map(c_record));
+    all.extend(records::made(noise).into_iter().map(our_record));
     all.extend((0..BY_HAND).map(|_| made_by_hand(noise)));
     all
 }
 
 /// Records with one part outside its range.
-pub fn outside() -> impl Iterator<Item = SkvLineRecord> {
-    records::outside().into_iter().map(c_record)
+pub fn outside() -> impl Iterator<Item = LineRecord> {
+    records::outside().into_iter().map(our_record)
 }
 
-pub fn check(library: &Library, tally: &mut Tally, record: SkvLineRecord) -> Compared {
+pub fn check(library: &Library, tally: &mut Tally, record: LineRecord) -> Compared {
     let wanted = || outcome(&rules::record(crates(record)));
     tally.same("check_record", || input(record), (library.check_record)(record), wanted)
 }
@@ -76,7 +76,7 @@ pub fn records(library: &Library, tally: &mut Tally, noise: &mut Noise) -> Compa
         for coeff_b in [0, 1, 4094, 4095, 4096, 4097, 65536, u32::MAX] {
             for vref in [0, 1, 994, 995, 996, 1100, 1204, 1205, 1206, 65536 + 1100, u32::MAX] {
                 for (unit, use_lut) in [0, 1, 2, 128, 255].into_iter().flat_map(|unit| [0, 1, 2, 255].map(|lut| (unit, lut))) {
-                    check(library, tally, SkvLineRecord { coeff_a, coeff_b, vref, unit, use_lut })?;
+                    check(library, tally, LineRecord { coeff_a, coeff_b, vref, unit: Unit(unit), use_lut })?;
                 }
             }
         }

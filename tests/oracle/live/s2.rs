@@ -6,12 +6,12 @@ use oracle::plain::record;
 use oracle::rules::MapChip;
 use oracle::{Dump, answers, dumps};
 
-use crate::exports::Told;
 use crate::fields::NO_DUMP;
 use crate::input::Input;
 use crate::library::Library;
 use crate::strewn::{Strewn, good_units_and_attens, strewn, units_and_attens};
 use crate::tally::{Compared, Tally, told};
+use crate::told::Told;
 
 /// The readings of a parameter, with the eFuse and without.
 type Parameter = (fn(&[u32], u8, u8, u8) -> Told<i32>, fn(u8, u8, u8) -> Told<i32>);

@@ -5,9 +5,10 @@ use std::ops::Range;
 
 use oracle::rules::{Answer, number};
 use oracle::{Panic, quietly};
+use suongkivat::Millivolt;
 
-use crate::exports::{SkvNext, SkvOutcome, SkvView, Told};
 use crate::input::{Input, runs};
+use crate::told::{Next, Outcome, Told, View};
 
 /// Where two answers differ.
 pub struct Difference {
@@ -51,16 +52,16 @@ macro_rules! seen {
 }
 
 seen! {
-    SkvOutcome: |answer| answer.number,
-    SkvView: |answer| answer.number,
-    SkvNext: |answer| answer.number,
+    Outcome: |answer| answer.number,
+    View: |answer| answer.number,
+    Next: |answer| answer.number,
     // A call that refuses nothing: the C6's version.
     u8: |_| 0,
 }
 
 /// An answer with all of the lent memory after the call.
 #[derive(PartialEq)]
-pub struct Lent<T>(pub SkvOutcome, pub Vec<T>);
+pub struct Lent<T>(pub Outcome, pub Vec<T>);
 
 impl<T: PartialEq + fmt::LowerHex> Debug for Lent<T> {
     fn fmt(&self, to: &mut Formatter) -> fmt::Result {
@@ -79,8 +80,8 @@ pub fn told<T: Default>(answer: Answer<T>) -> Told<T> {
     Told { number: number(&answer), value: answer.unwrap_or_default() }
 }
 
-pub fn outcome<T>(answer: &Answer<T>) -> SkvOutcome {
-    SkvOutcome { number: number(answer) }
+pub fn outcome<T>(answer: &Answer<T>) -> Outcome {
+    Outcome { number: number(answer) }
 }
 
 /// How many answers were compared, how many of them are refusals, and with which numbers.
@@ -120,7 +121,7 @@ impl Tally {
         &mut self,
         call: &'static str,
         input: impl FnOnce() -> Input,
-        [ours, wanted]: [&[u16]; 2],
+        [ours, wanted]: [&[Millivolt]; 2],
         written: Range<usize>,
     ) -> Compared {
         self.compared += written.len() as u64;
@@ -128,7 +129,7 @@ impl Tally {
             return Ok(());
         }
         let place = (0..wanted.len()).find(|k| ours[*k] != wanted[*k]).expect("tables of one length");
-        let told = |table: &[u16]| format!("the table has {} at {place}", table[place]);
+        let told = |table: &[Millivolt]| format!("the table has {} at {place}", table[place].0);
         Err(Box::new(Difference { call, input: input(), ours: told(ours), wanted: told(wanted) }))
     }
 }

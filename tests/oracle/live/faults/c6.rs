@@ -1,7 +1,7 @@
 //! Faults of the C6.
 use super::{bits, good, swapped, twos_complement};
-use crate::exports::Told;
 use crate::library::PROVED;
+use crate::told::Told;
 
 pub fn others_base(dump: &[u32], map: &[u8], minor: u8, unit: u8, atten: u8) -> Told<u16> {
     let told = (PROVED.c6_cal_code)(dump, map, minor, unit, atten);

@@ -1,7 +1,7 @@
 //! Faults of curves.
 use super::{good, refused, swapped};
-use crate::exports::Told;
 use crate::library::PROVED;
+use crate::told::Told;
 
 const C3: u8 = 2;
 const C6: u8 = 4;

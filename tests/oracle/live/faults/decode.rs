@@ -1,11 +1,12 @@
 //! Faults of decoding.
 use oracle::document;
+use suongkivat::{LineRecord, Unit};
 
 use super::{bits, good, refused, swapped, twos_complement, with_bits};
-use crate::exports::{SkvLineRecord, Told};
 use crate::library::PROVED;
+use crate::told::Told;
 
-type Decoded = Told<SkvLineRecord>;
+type Decoded = Told<LineRecord>;
 
 /// Decodes the sign and magnitude of what the bits mean in two's complement.
 pub fn vref_in_twos_complement(dump: &[u32], map: &[u8], unit: u8, atten: u8) -> Decoded {
@@ -34,7 +35,7 @@ pub fn plain_twos_complement(dump: &[u32], map: &[u8], unit: u8, atten: u8) -> D
     }
     let code = |k, width| twos_complement(bits(dump, map, k + usize::from(unit)), width);
     let coefficients = document::by_two_points(unit.into(), atten.into(), code(2, 7), code(4, 9));
-    let with = |(a, b)| SkvLineRecord { coeff_a: a as u32, coeff_b: b as u32, ..told.value };
+    let with = |(a, b)| LineRecord { coeff_a: a as u32, coeff_b: b as u32, ..told.value };
     coefficients.map_or(refused(9), |coefficients| good(with(coefficients)))
 }
 
@@ -46,7 +47,7 @@ pub fn refused_at_850(dump: &[u32], map: &[u8], unit: u8, atten: u8) -> Decoded 
 
 pub fn underflow_answered(dump: &[u32], map: &[u8], unit: u8, atten: u8) -> Decoded {
     let told = (PROVED.decode)(dump, map, unit, atten);
-    if told.number == 9 { good(SkvLineRecord { vref: 1100, unit, ..SkvLineRecord::default() }) } else { told }
+    if told.number == 9 { good(LineRecord { vref: 1100, unit: Unit(unit), ..LineRecord::default() }) } else { told }
 }
 
 pub fn refusal_with_vref(dump: &[u32], map: &[u8], unit: u8, atten: u8) -> Decoded {

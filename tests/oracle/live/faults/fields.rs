@@ -1,40 +1,42 @@
 //! Faults of fields and views.
+use oracle::fields::Field;
+
 use super::{good, outcome, swapped};
-use crate::exports::{SkvField, SkvOutcome, SkvView, Told};
 use crate::library::PROVED;
+use crate::told::{Outcome, Told, View};
 
-pub fn a_bit_past(dump: &[u32], field: SkvField) -> Told<u32> {
+pub fn a_bit_past(dump: &[u32], field: Field) -> Told<u32> {
     let past = field.bit_start <= 255 && u32::from(field.bit_start) + u32::from(field.bit_count) == 257;
-    (PROVED.read_field_u32)(dump, SkvField { bit_count: field.bit_count - u16::from(past), ..field })
+    (PROVED.read_field_u32)(dump, Field { bit_count: field.bit_count - u16::from(past), ..field })
 }
 
-pub fn empty_at_256(dump: &[u32], field: SkvField) -> Told<u32> {
+pub fn empty_at_256(dump: &[u32], field: Field) -> Told<u32> {
     let empty = field.bit_start == 256 && field.bit_count == 0;
-    (PROVED.read_field_u16)(dump, SkvField { bit_start: field.bit_start - u16::from(empty), ..field })
+    (PROVED.read_field_u16)(dump, Field { bit_start: field.bit_start - u16::from(empty), ..field })
 }
 
-pub fn place_before_block(dump: &[u32], field: SkvField) -> Told<u32> {
+pub fn place_before_block(dump: &[u32], field: Field) -> Told<u32> {
     let read = PROVED.read_field_u16;
-    swapped(read(dump, field), 4, 5, || read(dump, SkvField { block: 0, ..field }))
+    swapped(read(dump, field), 4, 5, || read(dump, Field { block: 0, ..field }))
 }
 
-pub fn stops_at_word(dump: &[u32], field: SkvField) -> Told<u32> {
+pub fn stops_at_word(dump: &[u32], field: Field) -> Told<u32> {
     let read = PROVED.read_field_u32;
     let told = read(dump, field);
     let in_word = field.bit_count.min(32 - field.bit_start % 32);
-    if told.number == 0 { read(dump, SkvField { bit_count: in_word, ..field }) } else { told }
+    if told.number == 0 { read(dump, Field { bit_count: in_word, ..field }) } else { told }
 }
 
-pub fn longer_dump(dump: &[u32], field: SkvField) -> Told<u32> {
+pub fn longer_dump(dump: &[u32], field: Field) -> Told<u32> {
     (PROVED.read_field_u8)(&dump[..dump.len().min(88)], field)
 }
 
-pub fn refusal_with_value(dump: &[u32], field: SkvField) -> Told<u32> {
+pub fn refusal_with_value(dump: &[u32], field: Field) -> Told<u32> {
     let told = (PROVED.read_field_u8)(dump, field);
     if told.number == 0 { told } else { Told { number: told.number, ..good(field.bit_count.into()) } }
 }
 
-pub fn written_on_refusal(dump: &[u32], field: SkvField, bytes: &mut [u8]) -> SkvOutcome {
+pub fn written_on_refusal(dump: &[u32], field: Field, bytes: &mut [u8]) -> Outcome {
     let told = (PROVED.read_field_le)(dump, field, bytes);
     if told != outcome(0) {
         bytes.iter_mut().take(1).for_each(|byte| *byte = 0);
@@ -42,21 +44,21 @@ pub fn written_on_refusal(dump: &[u32], field: SkvField, bytes: &mut [u8]) -> Sk
     told
 }
 
-pub fn rest_stays(dump: &[u32], field: SkvField, bytes: &mut [u8]) -> SkvOutcome {
+pub fn rest_stays(dump: &[u32], field: Field, bytes: &mut [u8]) -> Outcome {
     let held = usize::from(field.bit_count).div_ceil(8).min(bytes.len());
     (PROVED.read_field_le)(dump, field, &mut bytes[..held])
 }
 
-pub fn always_field(field: &[u32], reference: &[u32], board: u8, block: u8) -> SkvView {
-    SkvView { board: 0, ..(PROVED.view)(field, reference, board, block) }
+pub fn always_field(field: &[u32], reference: &[u32], board: u8, block: u8) -> View {
+    View { board: 0, ..(PROVED.view)(field, reference, board, block) }
 }
 
-pub fn block_before_dump(field: &[u32], reference: &[u32], board: u8, block: u8) -> SkvView {
+pub fn block_before_dump(field: &[u32], reference: &[u32], board: u8, block: u8) -> View {
     let view = (PROVED.view)(field, reference, board, block);
-    if view.number == 1 && block > 10 { SkvView { number: 4, ..view } } else { view }
+    if view.number == 1 && block > 10 { View { number: 4, ..view } } else { view }
 }
 
-pub fn both_checked(field: &[u32], reference: &[u32], board: u8, block: u8) -> SkvView {
+pub fn both_checked(field: &[u32], reference: &[u32], board: u8, block: u8) -> View {
     let other = (PROVED.view)(field, reference, 1 - board.min(1), block);
     if board <= 1 && other.number == 1 { other } else { (PROVED.view)(field, reference, board, block) }
 }

@@ -1,25 +1,27 @@
 //! Faults of filling.
-use super::outcome;
-use crate::exports::{SkvLineRecord, SkvOutcome};
-use crate::library::PROVED;
+use suongkivat::{LineRecord, Millivolt};
 
-pub fn from_0(cal: SkvLineRecord, first: u16, out: &mut [u16]) -> SkvOutcome {
+use super::outcome;
+use crate::library::PROVED;
+use crate::told::Outcome;
+
+pub fn from_0(cal: LineRecord, first: u16, out: &mut [Millivolt]) -> Outcome {
     let past = usize::from(first) + out.len() > 4096;
     (PROVED.fill)(cal, if past { first } else { 0 }, out)
 }
 
-pub fn first_not_written(cal: SkvLineRecord, first: u16, out: &mut [u16]) -> SkvOutcome {
+pub fn first_not_written(cal: LineRecord, first: u16, out: &mut [Millivolt]) -> Outcome {
     let before = out.first().copied();
     let told = (PROVED.fill)(cal, first, out);
     out.iter_mut().zip(before).for_each(|(number, before)| *number = before);
     told
 }
 
-pub fn nothing_written(cal: SkvLineRecord, first: u16, out: &mut [u16]) -> SkvOutcome {
+pub fn nothing_written(cal: LineRecord, first: u16, out: &mut [Millivolt]) -> Outcome {
     (PROVED.fill)(cal, first, &mut out.to_vec())
 }
 
-pub fn first_repeated(cal: SkvLineRecord, first: u16, out: &mut [u16]) -> SkvOutcome {
+pub fn first_repeated(cal: LineRecord, first: u16, out: &mut [Millivolt]) -> Outcome {
     let told = (PROVED.fill)(cal, first, out);
     if let Some(number) = out.first().copied() {
         out.fill(number);
@@ -28,35 +30,35 @@ pub fn first_repeated(cal: SkvLineRecord, first: u16, out: &mut [u16]) -> SkvOut
 }
 
 /// A walk by additions that doesn't stop at 2880, where the stretch began below it.
-pub fn line_through_blend(cal: SkvLineRecord, first: u16, out: &mut [u16]) -> SkvOutcome {
+pub fn line_through_blend(cal: LineRecord, first: u16, out: &mut [Millivolt]) -> Outcome {
     let told = (PROVED.fill)(cal, first, out);
     let below = 2945usize.saturating_sub(first.into()).min(out.len());
     if told == outcome(0) && first < 2880 {
-        (PROVED.fill)(SkvLineRecord { use_lut: 0, ..cal }, first, &mut out[..below]);
+        (PROVED.fill)(LineRecord { use_lut: 0, ..cal }, first, &mut out[..below]);
     }
     told
 }
 
-pub fn written_on_refusal(cal: SkvLineRecord, first: u16, out: &mut [u16]) -> SkvOutcome {
+pub fn written_on_refusal(cal: LineRecord, first: u16, out: &mut [Millivolt]) -> Outcome {
     let told = (PROVED.fill)(cal, first, out);
     if told != outcome(0) {
-        out.iter_mut().take(1).for_each(|number| *number = 0);
+        out.iter_mut().take(1).for_each(|number| *number = Millivolt(0));
     }
     told
 }
 
-pub fn refused_at_4096(cal: SkvLineRecord, first: u16, out: &mut [u16]) -> SkvOutcome {
+pub fn refused_at_4096(cal: LineRecord, first: u16, out: &mut [Millivolt]) -> Outcome {
     let at_end = usize::from(first) + out.len() == 4096;
     (PROVED.fill)(cal, if at_end { first + 1 } else { first }, out)
 }
 
-pub fn wrapping_sum(cal: SkvLineRecord, first: u16, out: &mut [u16]) -> SkvOutcome {
+pub fn wrapping_sum(cal: LineRecord, first: u16, out: &mut [Millivolt]) -> Outcome {
     let told = (PROVED.fill)(cal, first, out);
     let sum = first.wrapping_add(out.len() as u16);
     if told == outcome(11) && sum <= 4096 { outcome(0) } else { told }
 }
 
-pub fn stretch_before_record(cal: SkvLineRecord, first: u16, out: &mut [u16]) -> SkvOutcome {
+pub fn stretch_before_record(cal: LineRecord, first: u16, out: &mut [Millivolt]) -> Outcome {
     let told = (PROVED.fill)(cal, first, out);
     let past = usize::from(first) + out.len() > 4096;
     if told == outcome(10) && past { outcome(11) } else { told }

@@ -13,9 +13,8 @@ use oracle::dumps::Builder;
 use oracle::fields::field_of;
 use oracle::rules::RECORD;
 
-use crate::exports::{SkvOutcome, Told};
-use crate::fields::c_field;
 use crate::library::{Library, PROVED};
+use crate::told::{Outcome, Told};
 
 pub struct Fault {
     pub name: &'static str,
@@ -178,8 +177,8 @@ fn swapped<T>(told: Told<T>, first: u8, second: u8, without_first: impl FnOnce()
     if other.number == second { other } else { told }
 }
 
-fn outcome(number: u8) -> SkvOutcome {
-    SkvOutcome { number }
+fn outcome(number: u8) -> Outcome {
+    Outcome { number }
 }
 
 /// The bits of a map's field; 0 where there is no such field.
@@ -187,7 +186,7 @@ fn bits(dump: &[u32], map: &[u8], k: usize) -> u32 {
     if map.len() < RECORD * (k + 1) {
         return 0;
     }
-    (PROVED.read_field_u32)(dump, c_field(field_of(map, k))).value
+    (PROVED.read_field_u32)(dump, field_of(map, k)).value
 }
 
 /// The dump with other bits in a field of an ESP32 map, where the call isn't refused for its dump or map.

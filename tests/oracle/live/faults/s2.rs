@@ -1,7 +1,9 @@
 //! Faults of the S2.
+use oracle::fields::Field;
+
 use super::{bits, good, swapped, twos_complement};
-use crate::exports::{SkvField, Told};
 use crate::library::PROVED;
+use crate::told::Told;
 
 pub fn other_dependency(dump: &[u32], version: u8, unit: u8, atten: u8) -> Told<i32> {
     let read = |atten| (PROVED.s2_reading_vhigh)(dump, version, unit, atten);
@@ -12,7 +14,7 @@ pub fn other_dependency(dump: &[u32], version: u8, unit: u8, atten: u8) -> Told<
 
 pub fn tag_1_in_twos_complement(dump: &[u32], version: u8, unit: u8, atten: u8) -> Told<i32> {
     let told = (PROVED.s2_reading_vlow)(dump, version, unit, atten);
-    let bits = (PROVED.read_field_u32)(dump, SkvField { block: 2, bit_start: 208, bit_count: 6 }).value;
+    let bits = (PROVED.read_field_u32)(dump, Field { block: 2, bit_start: 208, bit_count: 6 }).value;
     let base = 2231;
     let tag_1 = (version, unit, atten) == (1, 0, 0) && told.number == 0;
     if tag_1 { good(base + 4 * twos_complement(bits, 6)) } else { told }

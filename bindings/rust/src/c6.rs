@@ -1,0 +1,49 @@
+//! The C6: its calibration's version, codes and channels.
+use crate::{raw, Answer, Attenuation, Millivolt, Unit};
+
+/// The calibration's version: 1 or 2, or 0 where there is none.
+#[inline]
+pub fn version(minor_block_version: u8) -> u8 {
+    raw::c6_version(minor_block_version)
+}
+
+/// The initial code.
+///
+/// # Errors
+/// [`Dump`](crate::Refusal::Dump), [`Unit`](crate::Refusal::Unit), those of [`check_map`](crate::check_map),
+/// [`NoCode`](crate::Refusal::NoCode).
+#[inline]
+pub fn init_code(dump: &[u32], map: &[u8], minor_block_version: u8, unit: Unit, attenuation: Attenuation) -> Answer<u16> {
+    let answer = raw::c6_init_code(dump, map, minor_block_version, unit.0, attenuation.0);
+    answer.refusal.or(answer.code)
+}
+
+/// The code at the reference voltage, [`cal_mv`].
+///
+/// # Errors
+/// Those of [`init_code`].
+#[inline]
+pub fn cal_code(dump: &[u32], map: &[u8], minor_block_version: u8, unit: Unit, attenuation: Attenuation) -> Answer<u16> {
+    let answer = raw::c6_cal_code(dump, map, minor_block_version, unit.0, attenuation.0);
+    answer.refusal.or(answer.code)
+}
+
+/// A channel's compensation; channels 6 and up use channel 6.
+///
+/// # Errors
+/// [`Dump`](crate::Refusal::Dump), [`Unit`](crate::Refusal::Unit), those of [`check_map`](crate::check_map).
+#[inline]
+pub fn get_chan_compens(dump: &[u32], map: &[u8], unit: Unit, channel: u8, attenuation: Attenuation) -> Answer<i32> {
+    let answer = raw::c6_get_chan_compens(dump, map, unit.0, channel, attenuation.0);
+    answer.refusal.or(answer.value)
+}
+
+/// The reference voltage of an attenuation.
+///
+/// # Errors
+/// [`Unit`](crate::Refusal::Unit).
+#[inline]
+pub fn cal_mv(minor_block_version: u8, unit: Unit, attenuation: Attenuation) -> Answer<Millivolt> {
+    let answer = raw::c6_cal_mv(minor_block_version, unit.0, attenuation.0);
+    answer.refusal.or(answer.voltage)
+}

@@ -1,0 +1,74 @@
+//! ESP32 line calibration: what counts are converted by.
+use crate::{raw, Answer, Attenuation, Count, Millivolt, Table, Unit};
+
+/// What converting goes by. [`decode`](Self::decode) gives one of a board; any other inside the ranges is taken too.
+#[repr(C)]
+#[derive(Debug, Clone, Copy, PartialEq, Eq, PartialOrd, Ord, Hash, Default)]
+pub struct LineRecord {
+    /// The slope, in 1/65536 millivolt a count: up to 131071.
+    pub coeff_a: u32,
+    /// Millivolts at count 0: up to 4095.
+    pub coeff_b: u32,
+    /// The reference voltage, in millivolts, which the lookup goes by: 995 to 1205.
+    pub vref: u32,
+    /// One of the two.
+    pub unit: Unit,
+    /// Whether the lookup is used: 0 for no.
+    pub use_lut: u8,
+}
+
+impl LineRecord {
+    /// The record of a dump's unit at an attenuation, by an ESP32 map.
+    ///
+    /// # Errors
+    /// [`Dump`](crate::Refusal::Dump), [`Unit`](crate::Refusal::Unit), those of [`check_map`](crate::check_map),
+    /// [`Underflow`](crate::Refusal::Underflow).
+    #[inline]
+    pub fn decode(dump: &[u32], map: &[u8], unit: Unit, attenuation: Attenuation) -> Answer<Self> {
+        let decoded = raw::decode(dump, map, unit.0, attenuation.0);
+        decoded.refusal.or(decoded.record)
+    }
+
+    /// Whether it is inside its ranges, as a decoded one is.
+    ///
+    /// # Errors
+    /// [`LineRecord`](crate::Refusal::LineRecord).
+    #[inline]
+    pub fn check(self) -> Answer<()> {
+        raw::check_record(self).refusal.or(())
+    }
+
+    /// The millivolts of a count, at most 12,285.
+    ///
+    /// # Errors
+    /// [`LineRecord`](crate::Refusal::LineRecord), [`Raw`](crate::Refusal::Raw).
+    #[inline]
+    pub fn convert(self, count: Count) -> Answer<Millivolt> {
+        let answer = raw::convert(self, count);
+        answer.refusal.or(answer.voltage)
+    }
+
+    /// Writes the millivolts of the counts from a first one on into the lent list, all of it.
+    ///
+    /// # Errors
+    /// [`LineRecord`](crate::Refusal::LineRecord), [`Stretch`](crate::Refusal::Stretch). The list is then as it was.
+    #[inline]
+    pub fn fill(self, first_count: Count, millivolts: &mut [Millivolt]) -> Answer<()> {
+        raw::fill(self, first_count, millivolts).refusal.or(())
+    }
+
+    /// The millivolts of all counts.
+    ///
+    /// # Errors
+    /// [`LineRecord`](crate::Refusal::LineRecord).
+    #[inline]
+    pub fn table(self) -> Answer<Table> {
+        Table::of(self)
+    }
+
+    /// Whether the lookup is used.
+    #[inline]
+    pub fn uses_lookup(self) -> bool {
+        self.use_lut != 0
+    }
+}

@@ -1,0 +1,110 @@
+//! Why a call was turned down.
+use std::{error, fmt};
+
+use crate::raw::SkvRefusal;
+
+/// What a call gives: its value, or why there is none.
+pub type Answer<T> = Result<T, Refusal>;
+
+macro_rules! refusals {
+    ($($number:literal $name:ident: $words:literal, $advice:literal;)*) => {
+        /// Why a call was turned down, by its number in the header and in docs/RULES.md.
+        #[derive(Debug, Clone, Copy, PartialEq, Eq, PartialOrd, Ord, Hash)]
+        #[non_exhaustive]
+        pub enum Refusal {
+            $(#[doc = concat!("Number ", $number, ": ", $words, ".")] $name,)*
+            /// A number that this crate doesn't know: the library is newer than the crate. docs/RULES.md of that library has it.
+            Unknown(u8),
+        }
+
+        impl Refusal {
+            /// The refusals that the crate knows, in the order of their numbers.
+            pub const ALL: &'static [Self] = &[$(Self::$name),*];
+
+            /// The refusal of a number that is one. Kept out of line, so that callers on the good way carry nothing of it.
+            #[cold]
+            #[inline(never)]
+            const fn numbered(number: u8) -> Self {
+                match number {
+                    $($number => Self::$name,)*
+                    _ => Self::Unknown(number),
+                }
+            }
+
+            /// Its number.
+            pub const fn number(self) -> u8 {
+                match self {
+                    $(Self::$name => $number,)*
+                    Self::Unknown(number) => number,
+                }
+            }
+
+            /// What is wrong, in the words of the header.
+            pub const fn words(self) -> &'static str {
+                match self {
+                    $(Self::$name => $words,)*
+                    Self::Unknown(_) => "a refusal that this binding doesn't know",
+                }
+            }
+
+            /// What to do about it, in the words of docs/RULES.md.
+            pub const fn advice(self) -> &'static str {
+                match self {
+                    $(Self::$name => $advice,)*
+                    Self::Unknown(_) => "look the number up in docs/RULES.md of the library, and take the binding of its version",
+                }
+            }
+        }
+    };
+}
+
+refusals! {
+    1 Dump: "the dump hasn't 88 words", "dump the board again; a dump file has 352 bytes";
+    2 Map: "the map's length isn't its chip's", "take the map of this chip, and see that it is whole";
+    3 MapRecord: "a map record's id or a zero byte is wrong", "mend that record: ids in order, each once; look for a shifted byte";
+    4 Block: "block above 10", "mend the block";
+    5 BitRange: "bit start above 255, or start + count above 256", "mend bit start or count: a field stays inside its block";
+    6 BitCount: "a map record's bit count isn't its id's", "mend the count by the table of ids";
+    7 Unit: "unit above 1 or attenuation above 3", "ask for a unit and an attenuation that exist";
+    8 Raw: "count above 4095", "distrust the log: no converter of 12 bits gives it";
+    9 Underflow: "the two points leave the line no offset",
+        "see that the map is this board's; if it is, take no voltages from this unit of the board";
+    10 LineRecord: "line record outside its ranges", "decode it again; a stored record was damaged";
+    11 Stretch: "a stretch whose first count plus length is above 4096", "lend a shorter list";
+    12 NoCode: "no code in that version: S2 version not 2, or C6 version not 1 or 2", "this chip has no such code";
+    13 LineAnswer: "line answer above 4095 given to the curve", "see where that voltage came from";
+    14 Curve: "no curve for that chip and unit", "ask only for a chip and a unit that have a curve";
+    15 Board: "board above 1, or a sample's last byte above 7", "distrust the log: a byte was lost or the layout is another";
+    16 Log: "log ends inside a record", "the log was cut off; what came before it stands";
+}
+
+impl Refusal {
+    /// The refusal of a number; none for 0, which is no refusal.
+    pub const fn from_number(number: u8) -> Option<Self> {
+        if number == 0 {
+            None
+        } else {
+            Some(Self::numbered(number))
+        }
+    }
+}
+
+impl fmt::Display for Refusal {
+    fn fmt(&self, to: &mut fmt::Formatter) -> fmt::Result {
+        write!(to, "{} (refusal {})", self.words(), self.number())
+    }
+}
+
+impl error::Error for Refusal {}
+
+impl SkvRefusal {
+    /// The value that stands beside this number, if the number is no refusal.
+    #[inline]
+    pub(crate) fn or<T>(self, value: T) -> Answer<T> {
+        if self.number == 0 {
+            Ok(value)
+        } else {
+            Err(Refusal::numbered(self.number))
+        }
+    }
+}
