@@ -10,10 +10,12 @@ use lib.IntN.{ℤ, pos, negℤ, natAbs, _+ℤ_, _*ℤ_, *ℤ-comm}
 use lib.Dec.{eqb, lit≤}
 use borrow.Author.Tests.{lt-ltb, le-ltb}
 use Rattle.terms.specs.Sign.{signMagnitude}
-use Rattle.terms.proofs.Order.{either, picked}
+use Rattle.terms.specs.Unit.{byUnit}
+use Rattle.terms.proofs.Order.{either}
 use Rattle.terms.proofs.Sign.{sign-plus, sign-minus, sign-fits}
+use Rattle.terms.proofs.Units.{by-unit}
 use Rattle.terms.proofs.Whole.{up, dn, sum-is, up-neg, dn-neg, up-times, dn-times, not-negative}
-use Rattle.esp32.specs.Code.{byUnit, stepped, vrefOf, wrapped, twoPointCode, pointOf, lowOf, highOf}
+use Rattle.esp32.specs.Code.{stepped, vrefOf, wrapped, twoPointCode, pointOf, lowOf, highOf}
 use Rattle.esp32.specs.Private.{Coded, Apart}
 
 -- base + step × code, where it isn't negative
@@ -120,10 +122,6 @@ module _ {base width bits sign : ℕ} (k : Coded base width bits) (worth : sign 
       let same : r ≡ wrapped bits = omega arith in
       rw (same, code-minus width bits (omega arith), ← worth)
       (stepped-minus base 4 (wrapped bits % sign) (cut-room (wrapped bits)))
-
--- what holds of ADC1's and of ADC2's holds of a unit's
-pub by-unit : (P : ℕ → Type 0) (unit : ℕ) {adc1 adc2 : ℕ} → P adc1 → P adc2 → P (byUnit unit adc1 adc2)
-by-unit P unit p q = picked P (eqb unit 0) p q
 
 -- a unit's bases have room for the lowest codes
 pub low-coded : (unit bits : ℕ) → bits < 128 → Coded (byUnit unit 278 421) 7 bits

@@ -1,46 +1,36 @@
 -- Laws of the coefficients: the tables' largest entries, where b is refused, and that a and b are inside a record's ranges.
 -- Assumes nothing.
-use mathlib.Core.Path.{_≡_}
-use mathlib.Core.List.{List}
-use Prim.Native.Nat.{ℕ, _*_, _-_, _/_, _≤_, _<_}
-use native.Mathlib.Nat.{div-le-of-le-mul, mul-le-mul}
+use mathlib.Core.Path.{_≡_, refl, _∙_, ap}
+use Prim.Native.Nat.{ℕ, _+_, _*_, _-_, _≤_, _<_}
+use native.Mathlib.Nat.{div-le-of-le-mul}
 use native.Mathlib.Omega.{arith}
-use lib.Dec.{T, ltb, eqb}
-use lib.ListN.{length, getD, List·getD-eq-default}
+use lib.Dec.{ltb}
 use borrow.Author.Tests.{ltb-false, lt-ltb, le-ltb}
 use Rattle.terms.proofs.Refusals.{refuse-none}
-use Rattle.terms.proofs.Check.{at-most, all, rule}
-use Rattle.terms.proofs.Order.{either, picked}
+use Rattle.terms.proofs.Units.{unit-most, entry-at}
+use Rattle.vref.specs.declared.coefficients.Atten.{Atten}
+use Rattle.vref.proofs.Lines.{vref-ranges}
 use Rattle.esp32.specs.declared.characterize.Source.{Source}
 use Rattle.esp32.specs.declared.characterize.Source.the-variants.{TwoPoint, Vref}
 use Rattle.esp32.specs.Code.{lowOf, highOf}
-use Rattle.esp32.specs.Characterize.{tpScale, tpOffset, vrefScale, vrefOffset, twoPointA, topOf, twoPointB, topRefusal}
-use Rattle.esp32.specs.Characterize.{entryOf, coefficientsOf}
-use Rattle.esp32.specs.Private.{Apart, InBits}
+use Rattle.esp32.specs.Characterize.{adc1TpScale, adc2TpScale, adc1TpOffset, adc2TpOffset, tpScale, tpOffset}
+use Rattle.esp32.specs.Characterize.{twoPointA, topOf, twoPointB, topRefusal, coefficientsOf}
+use Rattle.esp32.specs.Private.{Apart, InBits, tpAttenOf}
 use Rattle.esp32.proofs.Codes.{points-apart}
-
--- a test that no entry of a table is above a number; past its end there is 0
-abbrev Tested : List ℕ → ℕ → Type 0
-Tested table most = T (all (λ k. at-most (getD table k 0) most .passes) (length table))
-
-entry-most : (table : List ℕ) (most : ℕ) → Tested table most → (k : ℕ) → getD table k 0 ≤ most
-entry-most table most t k =
-    either (length table) k
-    (λ past. rw (List·getD-eq-default table 0 past) (omega arith))
-    (λ inside. rule (λ k. at-most (getD table k 0) most) (length table) t k inside)
-
-unit-most : (unit atten most : ℕ) (adc1 adc2 : List ℕ) → Tested adc1 most → Tested adc2 most → entryOf unit atten adc1 adc2 ≤ most
-unit-most unit atten most adc1 adc2 t t′ =
-    picked (λ table. getD table atten 0 ≤ most) (eqb unit 0) (entry-most adc1 most t atten) (entry-most adc2 most t′ atten)
 
 -- the largest entries, of either unit at any attenuation
 pub tp-most : (unit atten : ℕ) → (tpScale unit atten ≤ 224708) × (tpOffset unit atten ≤ 66)
 unfolding tpScale tpOffset
 tp-most unit atten = (unit-most unit atten _ _ _ tt tt, unit-most unit atten _ _ _ tt tt)
 
-pub vref-most : (unit atten : ℕ) → (vrefScale unit atten ≤ 197170) × (vrefOffset unit atten ≤ 142)
-unfolding vrefScale vrefOffset
-vref-most unit atten = (unit-most unit atten _ _ _ tt tt, unit-most unit atten _ _ _ tt tt)
+-- the entry at unit × 4 + attenuation
+pub tp-is : (unit atten : ℕ) → unit ≤ 1 → atten ≤ 3 → {entry : Atten} → entry ≡ tpAttenOf (4 * unit + atten)
+    → (entry .0 ≡ tpScale unit atten) × (entry .1 ≡ tpOffset unit atten)
+unfolding tpScale tpOffset
+tp-is unit atten u h e = (
+  ap (λ (x : Atten). x .0) e ∙ entry-at 4 adc1TpScale adc2TpScale refl unit atten u (omega arith),
+  ap (λ (x : Atten). x .1) e ∙ entry-at 4 adc1TpOffset adc2TpOffset refl unit atten u (omega arith),
+)
 
 -- "refusal 9 exactly if t > 850"
 pub top-within : (t : ℕ) → topRefusal t ≡ 0 → t ≤ 850
@@ -64,9 +54,6 @@ pub two-point-a-most : (scale low high : ℕ) → scale ≤ 224708 → Apart low
 unfolding twoPointA
 two-point-a-most scale low high s d = div-le-of-le-mul (high - low) (omega arith)
 
-vref-a-most : (vref scale : ℕ) → vref ≤ 1205 → scale ≤ 197170 → vref * scale / 4096 ≤ 131071
-vref-a-most vref scale v s = div-le-of-le-mul 4096 (omega (arith, mul-le-mul v s))
-
 -- a and b from either source are inside a record's ranges
 pub line-ranges : (unit atten vref : ℕ) (source : Source) → vref ≤ 1205
     → (coefficientsOf unit atten vref source .a ≤ 131071) × (coefficientsOf unit atten vref source .b ≤ 4095)
@@ -75,9 +62,7 @@ line-ranges unit atten vref (TwoPoint low high) v =
     let most = tp-most unit atten in
     let b = two-point-b-most (topOf (lowOf unit low) (highOf unit high)) (tpOffset unit atten) (most .1) in
     (two-point-a-most _ _ _ (most .0) (points-apart unit low high), omega arith)
-line-ranges unit atten vref Vref v =
-    let most = vref-most unit atten in
-    (vref-a-most vref _ v (most .0), omega arith)
+line-ranges unit atten vref Vref v = vref-ranges unit atten vref v
 
 -- the codes of a source by two points
 pub in-bits : {source : Source} {low high : ℕ} → source ≡ TwoPoint low high → InBits source → (low < 128) × (high < 512)

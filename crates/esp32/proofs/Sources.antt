@@ -7,17 +7,17 @@ use native.Mathlib.Nat.{le-refl}
 use lib.Dec.{eqb, lit≤}
 use borrow.Author.Tests.{eq-eqb, ne-eqb}
 use Rattle.terms.specs.declared.chip.MapChip.the-variants.{Esp32}
+use Rattle.terms.specs.Unit.{byUnit}
 use Rattle.terms.proofs.Order.{picked}
+use Rattle.terms.proofs.Units.{by-unit}
 use Rattle.maps.specs.Map.{countsOf}
 use Rattle.maps.specs.Input.{fieldsRefusal}
 use Rattle.maps.specs.Value.{recordValue, valueById}
 use Rattle.maps.proofs.Values.{value-fits, value-is}
 use Rattle.esp32.specs.declared.characterize.Source.{Source}
 use Rattle.esp32.specs.declared.characterize.Source.the-variants.{TwoPoint, Vref}
-use Rattle.esp32.specs.Code.{byUnit}
 use Rattle.esp32.specs.Private.{InBits}
 use Rattle.esp32.specs.Decode.{twoPointUsed, lowBits, highBits, sourceOf}
-use Rattle.esp32.proofs.Codes.{by-unit}
 
 module _ (dump map : List ℕ) (unit : ℕ) where
   -- which source it is

@@ -3,13 +3,10 @@
 -- components/esp_adc/esp32/adc_cali_line_fitting.c, line 155.
 use mathlib.Core.Bool.{cond}
 use Prim.Native.Nat.{ℕ, _-_, _%_, _^_}
-use lib.Dec.{ltb, eqb}
+use lib.Dec.{ltb}
 use lib.IntN.{ℤ, pos, negℤ, natAbs, _+ℤ_, _*ℤ_}
 use Rattle.terms.specs.Sign.{signMagnitude}
-
--- "(unit 0 or 1)": unit 0 is ADC1
-abbrev pub byUnit : {A : Type 0} → ℕ → A → A → A
-byUnit unit adc1 adc2 = cond (eqb unit 0) adc1 adc2
+use Rattle.terms.specs.Unit.{byUnit}
 
 -- base + step × code. For a code that a field can have it is never negative, so that `natAbs` loses no sign
 abbrev pub stepped : ℕ → ℕ → ℤ → ℕ

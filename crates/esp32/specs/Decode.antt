@@ -8,6 +8,7 @@ use Prim.Native.Nat.{ℕ}
 use lib.Dec.{eqb}
 use Rattle.terms.specs.declared.chip.MapChip.the-variants.{Esp32}
 use Rattle.terms.specs.Refuse.{orElse, answered}
+use Rattle.terms.specs.Unit.{byUnit}
 use Rattle.maps.specs.Input.{decodingRefusal}
 use Rattle.maps.specs.Value.{valueById}
 use Rattle.line.specs.declared.record.LineRecord.{LineRecord}
@@ -17,7 +18,7 @@ use Rattle.esp32.specs.declared.decode.Found.{Found}
 use Rattle.esp32.specs.declared.decode.Decoded.{Decoded}
 use Rattle.esp32.specs.declared.decode.Decoded.the-variants.{Record, Refused}
 use Rattle.line.specs.Record.{recordOf}
-use Rattle.esp32.specs.Code.{byUnit, vrefOf}
+use Rattle.esp32.specs.Code.{vrefOf}
 use Rattle.esp32.specs.Characterize.{coefficientsOf, sourceRefusal}
 
 -- id 2 is BLK3_PART_RESERVE, 3 and 4 are ADC1_TP_LOW and ADC2_TP_LOW, 5 and 6 ADC1_TP_HIGH and ADC2_TP_HIGH.

@@ -1,7 +1,11 @@
--- What private functions ask of their arguments, which every field and unit keeps. No public promise cites it.
+-- What private functions ask of their arguments, which every field and unit keeps, and what one promises. No public promise cites it.
+use mathlib.Core.List.{_++_}
 use Prim.Native.Nat.{ℕ, _+_, _*_, _-_, _^_, _≤_, _<_}
+use lib.ListN.{getD}
+use Rattle.vref.specs.declared.coefficients.Atten.{Atten}
 use Rattle.esp32.specs.declared.characterize.Source.{Source}
 use Rattle.esp32.specs.declared.characterize.Source.the-variants.{TwoPoint, Vref}
+use Rattle.esp32.specs.Characterize.{adc1TpScale, adc2TpScale, adc1TpOffset, adc2TpOffset}
 
 -- a code of that width, at a base that it doesn't take below zero
 pub record Coded (base width bits : ℕ) : Type 0 where
@@ -20,3 +24,7 @@ pub record Apart (low high : ℕ) : Type 0 where
 abbrev pub InBits : Source → Type 0
 InBits (TwoPoint low high) = (low < 128) × (high < 512)
 InBits Vref = Unit
+
+-- the scale and the offset by two points at unit × 4 + attenuation
+abbrev pub tpAttenOf : ℕ → Atten
+tpAttenOf k = record { 0 = getD (adc1TpScale ++ adc2TpScale) k 0; 1 = getD (adc1TpOffset ++ adc2TpOffset) k 0 }

@@ -1,13 +1,14 @@
 // The coefficients a and b of a line, by two points or by Vref.
 use crate::code;
 use terms::refusal;
+use vref::coefficients::ATTENUATIONS;
+use vref::coefficients::Atten;
+use vref::coefficients::Coefficients;
+use vref::coefficients::vref_line;
 ghost use mathlib.Core.Path.{_≡_};
-ghost use mathlib.Core.List.{[], _∷_};
-ghost use Prim.Native.Nat.{_≤_};
-ghost use lib.ListN.{getD};
-ghost use Rattle.esp32.specs.Private.{Apart, InBits};
-ghost use Rattle.esp32.specs.Characterize.{tpScale, tpOffset, vrefScale, vrefOffset, twoPointA, topOf, twoPointB};
-ghost use Rattle.esp32.specs.Characterize.{topRefusal, twoPointLine, vrefLine, coefficientsOf, sourceRefusal};
+ghost use Prim.Native.Nat.{_≤_, _<_};
+ghost use Rattle.esp32.specs.Private.{Apart, InBits, tpAttenOf};
+ghost use Rattle.esp32.specs.Characterize.{twoPointA, topOf, twoPointB, topRefusal, twoPointLine, coefficientsOf, sourceRefusal};
 
 const TP_LOW_VOLTAGE: u32 = 150;
 
@@ -15,83 +16,27 @@ const TP_HIGH_VOLTAGE: u32 = 850;
 
 const DELTA_V: u32 = TP_HIGH_VOLTAGE - TP_LOW_VOLTAGE;
 
-const ADC_12_BIT_RES: u32 = 4096;
-
 // Where a and b come from: two points, with the raw bits of the unit's low and high codes, or Vref.
 pub(crate) enum Source {
     TwoPoint(u32, u32),
     Vref,
 }
 
-// A line's coefficients.
-pub(crate) struct Coefficients {
-    pub(crate) a: u32,
-    pub(crate) b: u32,
-}
-
-// A unit's scale and offset at an attenuation.
-struct Atten(u32, u32);
-
-// The entry at an attenuation of a table of four.
-fn entry(atten: u8, a: Atten, b: Atten, c: Atten, d: Atten) -> Atten
-    requires { ⌜ atten ≤ 3 ⌝ }
-    ensures scale { λ r. ⌜ r .0 ≡ getD (a .0 ∷ b .0 ∷ c .0 ∷ d .0 ∷ []) atten 0 ⌝ }
-    ensures offset { λ r. ⌜ r .1 ≡ getD (a .1 ∷ b .1 ∷ c .1 ∷ d .1 ∷ []) atten 0 ⌝ }
+// ADC1_TP_ATTEN_SCALE with ADC1_TP_ATTEN_OFFSET, then ADC2's: an entry for each unit × 4 + attenuation.
+fn tp_atten(k: u8) -> Atten
+    requires { ⌜ k < 8 ⌝ }
+    ensures { λ r. ⌜ r ≡ tpAttenOf k ⌝ }
 {
-    match atten {
-        0 => a,
-        1 => b,
-        2 => c,
-        _ => d,
+    match k {
+        0 => Atten(65504, 0),
+        1 => Atten(86975, 1),
+        2 => Atten(120389, 27),
+        3 => Atten(224310, 54),
+        4 => Atten(65467, 0),
+        5 => Atten(86861, 9),
+        6 => Atten(120416, 26),
+        _ => Atten(224708, 66),
     }
-}
-
-fn tp_atten(unit: u8, atten: u8) -> Atten
-    requires { ⌜ atten ≤ 3 ⌝ }
-    ensures { λ r. ⌜ (r .0 ≡ tpScale unit atten) × (r .1 ≡ tpOffset unit atten) ⌝ }
-{
-    if unit == 0 {
-        // ADC1_TP_ATTEN_SCALE, ADC1_TP_ATTEN_OFFSET
-        return entry(
-            atten,
-            Atten(65504, 0),
-            Atten(86975, 1),
-            Atten(120389, 27),
-            Atten(224310, 54),
-        );
-    }
-    // ADC2_TP_ATTEN_SCALE, ADC2_TP_ATTEN_OFFSET
-    entry(
-        atten,
-        Atten(65467, 0),
-        Atten(86861, 9),
-        Atten(120416, 26),
-        Atten(224708, 66),
-    )
-}
-
-fn vref_atten(unit: u8, atten: u8) -> Atten
-    requires { ⌜ atten ≤ 3 ⌝ }
-    ensures { λ r. ⌜ (r .0 ≡ vrefScale unit atten) × (r .1 ≡ vrefOffset unit atten) ⌝ }
-{
-    if unit == 0 {
-        // ADC1_VREF_ATTEN_SCALE, ADC1_VREF_ATTEN_OFFSET
-        return entry(
-            atten,
-            Atten(57431, 75),
-            Atten(76236, 78),
-            Atten(105481, 107),
-            Atten(196602, 142),
-        );
-    }
-    // ADC2_VREF_ATTEN_SCALE, ADC2_VREF_ATTEN_OFFSET
-    entry(
-        atten,
-        Atten(57236, 63),
-        Atten(76175, 66),
-        Atten(105678, 89),
-        Atten(197170, 128),
-    )
 }
 
 // Document 01's t: b is 850 less t, before the offset.
@@ -135,26 +80,12 @@ fn characterize_using_two_point(unit: u8, atten: u8, high: u32, low: u32) -> Coe
     requires { ⌜ (unit ≤ 1) × (atten ≤ 3) × Apart low high × (topRefusal (topOf low high) ≡ 0) ⌝ }
     ensures { λ r. ⌜ r ≡ twoPointLine unit atten low high ⌝ }
 {
-    let entry = tp_atten(unit, atten);
+    let entry = tp_atten(ATTENUATIONS * unit + atten);
     let scale = entry.0;
     let offset = entry.1;
     Coefficients {
         a: two_point_a(scale, low, high),
         b: two_point_b(top(low, high), offset),
-    }
-}
-
-// a and b from Vref in millivolts.
-fn characterize_using_vref(unit: u8, atten: u8, vref: u32) -> Coefficients
-    requires { ⌜ (unit ≤ 1) × (atten ≤ 3) × (vref ≤ 1205) ⌝ }
-    ensures { λ r. ⌜ r ≡ vrefLine unit atten vref ⌝ }
-{
-    let entry = vref_atten(unit, atten);
-    let scale = entry.0;
-    let offset = entry.1;
-    Coefficients {
-        a: vref * scale / ADC_12_BIT_RES,
-        b: offset,
     }
 }
 
@@ -188,6 +119,6 @@ pub(crate) fn characterize(unit: u8, atten: u8, vref: u32, source: Source) -> Co
                 code::efuse_tp_low(unit, low),
             )
         }
-        Source::Vref => characterize_using_vref(unit, atten, vref),
+        Source::Vref => vref_line(vref as u16, unit, atten),
     }
 }

@@ -2,7 +2,8 @@
 // `decode_bits`.
 ghost use mathlib.Core.Path.{_≡_};
 ghost use Prim.Native.Nat.{_-_, _^_, _≤_, _<_};
-ghost use Rattle.esp32.specs.Code.{byUnit, vrefOf, pointOf, lowOf, highOf};
+ghost use Rattle.terms.specs.Unit.{byUnit};
+ghost use Rattle.esp32.specs.Code.{vrefOf, pointOf, lowOf, highOf};
 ghost use Rattle.esp32.specs.Private.{Coded};
 
 const VREF_WIDTH: u32 = 5;

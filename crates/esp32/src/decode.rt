@@ -1,6 +1,5 @@
 // Decoding: the line record of a unit at an attenuation, from a dump and its map. In the crate: `new_cal`.
 use crate::characterize;
-use crate::characterize::Coefficients;
 use crate::characterize::Source;
 use crate::code;
 use line::record;
@@ -10,6 +9,7 @@ use maps::value::record_value;
 use terms::chip::MapChip;
 use terms::refusal;
 use terms::refusal::Refusal;
+use vref::coefficients::Coefficients;
 ghost use mathlib.Core.Path.{_≡_};
 ghost use Prim.Native.Nat.{_<_};
 ghost use Rattle.terms.specs.declared.chip.MapChip.the-variants.{Esp32};

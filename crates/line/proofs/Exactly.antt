@@ -5,22 +5,13 @@ use mathlib.Core.Logic.{⊎-elim}
 use Prim.Native.Nat.{ℕ, _≤_}
 use native.Mathlib.Omega.{arith}
 use Rattle.terms.specs.Exactly.{Exactly}
-use Rattle.terms.specs.Refuse.{rawRefusal}
-use Rattle.terms.specs.When.{RawWhen, good-raw}
 use Rattle.terms.proofs.Exactly.{Some, exactly, case, raw-exactly}
+use Rattle.terms.proofs.Refusals.{raw-inside}
 use Rattle.line.specs.declared.record.LineRecord.{LineRecord}
 use Rattle.line.specs.Record.{recordRefusal}
 use Rattle.line.specs.Convert.{convertRefusal}
 use Rattle.line.specs.When.{InRanges, RecordWhen, bad-record, good-record, ConvertWhen, convert-record, convert-raw}
 use Rattle.line.proofs.Records.{record-sound, record-good, record-number}
-
--- what is known of a count where nothing is refused
-module _ (raw : ℕ) where
-  raw-within : RawWhen raw 0 → raw ≤ 4095
-  raw-within (good-raw h) = h
-
-  pub raw-most : rawRefusal raw ≡ 0 → raw ≤ 4095
-  raw-most e = raw-within (raw-exactly raw 0 .0 e)
 
 module _ (r : LineRecord) where
   record-gives : (n : ℕ) → RecordWhen r n → recordRefusal r ≡ n
@@ -55,7 +46,7 @@ module _ (r : LineRecord) where
 
     -- what is known where nothing is refused
     convert-none : ConvertWhen r raw 0 → InRanges r × (raw ≤ 4095)
-    convert-none (convert-raw w h) = (ranges w, raw-within raw h)
+    convert-none (convert-raw w h) = (ranges w, raw-inside raw (raw-exactly raw 0 .1 h))
 
     pub convert-good : convertRefusal r raw ≡ 0 → InRanges r × (raw ≤ 4095)
     convert-good e = convert-none (convert-exactly 0 .0 e)

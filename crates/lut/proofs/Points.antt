@@ -1,18 +1,18 @@
 -- The points of the lookup, without signs. The tables' rules are computed tests; from them a point is the crate's signed sum for
 -- every Vref of a record, and points rise: they are linear in Vref, so what is ordered at 995 and at 1205 is ordered between.
 -- Assumes nothing.
-use mathlib.Core.Path.{_≡_, refl, sym, _∙_, ap}
+use mathlib.Core.Path.{_≡_, refl, _∙_, ap}
 use mathlib.Core.Bool.{Bool, true, false, cond}
 use mathlib.Core.List.{List, _++_}
-use Prim.Native.Nat.{ℕ, zero, suc, _+_, _*_, _-_, _≤_, _<_}
-use native.Mathlib.Nat.{zero-add, mul-sub, mul-le-mul-left, mul-le-mul-right, le-of-lt}
+use Prim.Native.Nat.{ℕ, _+_, _*_, _-_, _≤_, _<_}
+use native.Mathlib.Nat.{mul-sub, mul-le-mul-left, mul-le-mul-right, le-of-lt}
 use native.Mathlib.Omega.{arith}
-use lib.ListN.{length, getD, List·getD-append, List·getD-eq-default}
-use lib.Seq.{getD-append-add}
+use lib.ListN.{getD, List·getD-eq-default}
 use lib.Dec.{eqb}
 use Rattle.terms.proofs.Arms.{NoArm, never}
 use Rattle.terms.proofs.Check.{Check, at-most, also, rule}
 use Rattle.terms.proofs.Order.{either}
+use Rattle.terms.proofs.Units.{entry-at}
 use Rattle.lut.specs.declared.row.Row.{Row}
 use Rattle.lut.specs.Point.{pointAt}
 use Rattle.lut.specs.Row.{lutAdc1Low, lutAdc1High, lutAdc2Low, lutAdc2High, lowAt, highAt, rowOf}
@@ -71,14 +71,6 @@ row-past k none =
     (λ past. rw (List·getD-eq-default (lutAdc1Low ++ lutAdc2Low) 0 past, List·getD-eq-default (lutAdc1High ++ lutAdc2High) 0 past))
     (λ within. absurd (never k 40 none within))
 
--- entry k of a unit's table where unit 1's stands behind unit 0's
-pub row-at : (one two : List ℕ) → length one ≡ 20 → (unit k : ℕ) → unit ≤ 1 → k < 20
-    → getD (one ++ two) (20 * unit + k) 0 ≡ getD (cond (eqb unit 0) one two) k 0
-row-at one two long zero k u h = rw zero-add (List·getD-append one two 0 k (omega arith))
-row-at one two long (suc zero) k u h =
-    ap (λ (n : ℕ). getD (one ++ two) (n + k) 0) (sym long) ∙ getD-append-add one two k 0
-row-at one two long (suc (suc n)) k u h = absurd (omega arith)
-
 module _ (unit v k : ℕ) where
   -- what the code asks of a row's two numbers
   pub record Made (low high : ℕ) : Type 0 where
@@ -109,8 +101,8 @@ module _ (unit v k : ℕ) where
   pub point-made : unit ≤ 1 → k < 20 → v ≤ 1205 → {row : Row} → row ≡ rowOf (20 * unit + k) → Made (row .0) (row .1)
   unfolding pointAt lowAt highAt
   point-made u h most r =
-      let low-is = ap (λ (x : Row). x .0) r ∙ row-at lutAdc1Low lutAdc2Low refl unit k u h in
-      let high-is = ap (λ (x : Row). x .1) r ∙ row-at lutAdc1High lutAdc2High refl unit k u h in
+      let low-is = ap (λ (x : Row). x .0) r ∙ entry-at 20 lutAdc1Low lutAdc2Low refl unit k u h in
+      let high-is = ap (λ (x : Row). x .1) r ∙ entry-at 20 lutAdc1High lutAdc2High refl unit k u h in
       let e = entries unit k h in
       let top = point-most h most in
       rw (low-is, high-is) (record { order = e .0; apart = e .1 .0; small = omega arith; top = top; is = refl })

@@ -1,10 +1,9 @@
 -- Document 01, "ESP32 line rules": the lookup's tables, those beside `calculate_voltage_lut` of the crate's calibration/line/esp32.rs;
 -- its source is ESP-IDF's components/esp_adc/esp32/adc_cali_line_fitting.c, from line 155 on.
-use mathlib.Core.Bool.{cond}
 use mathlib.Core.List.{List, [], _∷_, _++_}
 use Prim.Native.Nat.{ℕ}
 use lib.ListN.{getD}
-use lib.Dec.{eqb}
+use Rattle.terms.specs.Unit.{entryOf}
 use Rattle.lut.specs.declared.row.Row.{Row}
 
 -- the crate's four tables: millivolts at the counts 2880, 2944, .., 64 apart, at a Vref of 1000 (low) and of 1200 (high)
@@ -30,10 +29,10 @@ lutAdc2High =
 
 -- entry i of a unit's low and high table
 unfoldable pub lowAt : ℕ → ℕ → ℕ
-lowAt unit i = getD (cond (eqb unit 0) lutAdc1Low lutAdc2Low) i 0
+lowAt unit i = entryOf unit i lutAdc1Low lutAdc2Low
 
 unfoldable pub highAt : ℕ → ℕ → ℕ
-highAt unit i = getD (cond (eqb unit 0) lutAdc1High lutAdc2High) i 0
+highAt unit i = entryOf unit i lutAdc1High lutAdc2High
 
 -- a low and a high entry: unit 0's tables with unit 1's behind them, and zeros past those
 abbrev pub rowOf : ℕ → Row

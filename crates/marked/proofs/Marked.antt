@@ -8,8 +8,9 @@ use Rattle.efuse.specs.Field.{bitsOf, placeRefusal, fieldBits}
 use Rattle.maps.specs.Map.{countRefusal, mapRecordRefusal, mapRefusal}
 use Rattle.maps.specs.Input.{decodingRefusal}
 use Rattle.maps.specs.Value.{valueById}
+use Rattle.vref.specs.Coefficients.{vrefScale, vrefOffset}
 use Rattle.esp32.specs.Code.{vrefOf, twoPointCode, pointOf, lowOf, highOf}
-use Rattle.esp32.specs.Characterize.{tpScale, tpOffset, vrefScale, vrefOffset, twoPointA, topOf, twoPointB, topRefusal, coefficientsOf, sourceRefusal}
+use Rattle.esp32.specs.Characterize.{tpScale, tpOffset, twoPointA, topOf, twoPointB, topRefusal, coefficientsOf, sourceRefusal}
 use Rattle.esp32.specs.Decode.{twoPointUsed, sourceOf, foundOf, decodedRecord, decodeRefusal, decodeOf}
 use Rattle.line.specs.Record.{usesLookup, recordRefusal}
 use Rattle.lut.specs.Row.{lowAt, highAt}

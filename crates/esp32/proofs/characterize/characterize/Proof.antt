@@ -2,6 +2,7 @@
 -- Assumes nothing.
 use mathlib.Core.Path.{_∙_}
 use borrow.Author.Needs.{needs}
+use Rattle.vref.proofs.Lines.{line-is}
 use Rattle.esp32.specs.Characterize.{coefficientsOf, sourceRefusal}
 use Rattle.esp32.proofs.Codes.{points-apart}
 use Rattle.esp32.proofs.Coefficients.{in-bits}
@@ -28,8 +29,11 @@ characterize-using-two-point-requires c κs =
 enum-told : tie.Need-enum-told
 enum-told c = search needs
 
-characterize-using-vref-requires : tie.Need-characterize-using-vref-requires
-characterize-using-vref-requires c κs = search needs
+cast-vref-line : tie.Need-cast-vref-line
+cast-vref-line c = search needs
+
+vref-line-requires : tie.Need-vref-line-requires
+vref-line-requires c κs = search needs
 
 returns : tie.Need-returns
 unfolding coefficientsOf
@@ -40,7 +44,9 @@ returns c =
 
 returns-2 : tie.Need-returns-2
 unfolding coefficientsOf
-returns-2 c = c .characterize-using-vref .ensures ∙ rw (c .before .enum-told .given .1)
+returns-2 c =
+    let k = c .before .before .before .pre in
+    c .vref-line .ensures ∙ line-is _ _ _ (k .0) (k .1) ∙ rw (c .before .enum-told .given .1)
 
 pub characterize-spec : {M : Type 1} → statement M
 characterize-spec =
@@ -51,6 +57,7 @@ characterize-spec =
     efuse-tp-low-requires
     characterize-using-two-point-requires
     enum-told
-    characterize-using-vref-requires
+    cast-vref-line
+    vref-line-requires
     returns
     returns-2)

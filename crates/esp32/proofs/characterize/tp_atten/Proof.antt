@@ -1,23 +1,17 @@
--- `esp32::tp_atten` meets its contract: the unit's test says which of the two tables it is. Assumes nothing.
-use borrow.Author.Needs.{needs}
-use borrow.Author.Tests.{eq-eqb, ne-eqb}
-use Rattle.esp32.specs.Characterize.{tpScale, tpOffset}
+-- `esp32::tp_atten` meets its contract: each arm is the tables' entry, by computing. Assumes nothing.
+use Rattle.terms.proofs.Arms.{last-arm}
 use Rattle.esp32.proofs.characterize.tp_atten.Statement.{statement}
 use Rattle.esp32.proofs.characterize.tp_atten.Tie as tie
 
-entry-requires : tie.Need-entry-requires
-entry-requires c κs = search needs
-
-returns : tie.Need-returns
-unfolding tpScale tpOffset
-returns c = rw (eq-eqb _ _ (c .before .if1 .taken)) (c .entry .ensures)
-
-entry-requires-2 : tie.Need-entry-requires-2
-entry-requires-2 c κs = search needs
-
-returns-2 : tie.Need-returns-2
-unfolding tpScale tpOffset
-returns-2 c = rw (ne-eqb _ _ (c .before .if1 .left)) (c .entry2 .ensures)
-
 pub tp-atten-spec : {M : Type 1} → statement M
-tp-atten-spec = tie.close (tie.spec entry-requires returns entry-requires-2 returns-2)
+tp-atten-spec =
+    tie.close
+    (tie.spec
+    (λ c. rw (c .match .keys1))
+    (λ c. rw (c .match .keys2))
+    (λ c. rw (c .match .keys3))
+    (λ c. rw (c .match .keys4))
+    (λ c. rw (c .match .keys5))
+    (λ c. rw (c .match .keys6))
+    (λ c. rw (c .match .keys7))
+    (λ c. rw (last-arm _ 7 (c .match .rest) (c .before .pre))))

@@ -20,30 +20,20 @@ unfolding recordRefusal
 returns-3 c =
     simp (le-ltb _ _ (c .before .before .if1 .left), le-ltb _ _ (c .before .if2 .left), lt-ltb _ _ (c .if3 .taken))
 
-returns-4 : tie.Need-returns-4
+-- the first three pass, so that the largest Vref decides, and then the unit
+vref : (c : tie.Else3)
+    → let cal = c .before .before .before .args .cal in
+    recordRefusal cal ≡ refuse (ltb 1205 (cal .vref)) 10 (refuse (ltb 1 (cal .unit)) 10 0)
 unfolding recordRefusal
-returns-4 c =
-    let p = c .before .before in
-    simp (
-      le-ltb _ _ (p .before .if1 .left),
-      le-ltb _ _ (p .if2 .left),
-      le-ltb _ _ (c .before .if3 .left),
-      lt-ltb _ _ (c .if4 .taken),
-    )
+vref c = simp (le-ltb _ _ (c .before .before .if1 .left), le-ltb _ _ (c .before .if2 .left), le-ltb _ _ (c .if3 .left))
 
--- the first four pass, so that the unit decides
 unit : (c : tie.Else4)
     → let cal = c .before .before .before .before .args .cal in
     recordRefusal cal ≡ refuse (ltb 1 (cal .unit)) 10 0
-unfolding recordRefusal
-unit c =
-    let p = c .before .before in
-    simp (
-      le-ltb _ _ (p .before .if1 .left),
-      le-ltb _ _ (p .if2 .left),
-      le-ltb _ _ (c .before .if3 .left),
-      le-ltb _ _ (c .if4 .left),
-    )
+unit c = vref (c .before) ∙ rw (le-ltb _ _ (c .if4 .left))
+
+returns-4 : tie.Need-returns-4
+returns-4 c = sym (vref (c .before) ∙ rw (lt-ltb _ _ (c .if4 .taken)))
 
 returns-5 : tie.Need-returns-5
 returns-5 c = sym (unit (c .before) ∙ rw (lt-ltb _ _ (c .if5 .taken)))
