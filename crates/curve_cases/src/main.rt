@@ -31,12 +31,10 @@ fn same(list: List, case: &[u8; replay::CASE]) -> bool {
 
 // Compares a list to its end.
 fn replay_list(list: List, name: &[u8]) {
-    let mut words = [0u32; replay::WORDS];
-    let mut case = [0u8; replay::CASE];
-    let mut run = replay::open(name, layout_of(list), &mut words, &mut case);
+    let mut run = replay::open(name, layout_of(list));
     while 0 < run.left {
-        let same = same(list, &case);
-        run = replay::step(name, run, same, &mut words, &mut case);
+        let same = same(list, &run.case);
+        run = replay::step(name, run, same);
     }
     replay::close(name, run);
 }

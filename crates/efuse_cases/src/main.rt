@@ -28,10 +28,10 @@ fn layout_of(list: List) -> Layout {
 }
 
 // Whether the library answers a case as the list says.
-fn same(
+fn same<'a>(
     list: List,
-    words: &[u32; replay::WORDS],
-    case: &[u8; replay::CASE],
+    words: &'a [u32; replay::WORDS],
+    case: &'a [u8; replay::CASE],
     good_maps: &[u8],
 ) -> bool {
     match list {
@@ -43,12 +43,10 @@ fn same(
 
 // Compares a list to its end.
 fn replay_list(list: List, name: &[u8], good_maps: &[u8]) {
-    let mut words = [0u32; replay::WORDS];
-    let mut case = [0u8; replay::CASE];
-    let mut run = replay::open(name, layout_of(list), &mut words, &mut case);
+    let mut run = replay::open(name, layout_of(list));
     while 0 < run.left {
-        let same = same(list, &words, &case, good_maps);
-        run = replay::step(name, run, same, &mut words, &mut case);
+        let same = same(list, &run.words, &run.case, good_maps);
+        run = replay::step(name, run, same);
     }
     replay::close(name, run);
 }

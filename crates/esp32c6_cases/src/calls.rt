@@ -40,10 +40,10 @@ fn call_answer(dump: &[u32], map: &[u8], case: &[u8]) -> Answer {
 }
 
 // Whether a call is answered as the case says.
-pub(crate) fn same_call(
+pub(crate) fn same_call<'a>(
     good_map: &[u8],
-    words: &[u32; replay::WORDS],
-    case: &[u8; replay::CASE],
+    words: &'a [u32; replay::WORDS],
+    case: &'a [u8; replay::CASE],
 ) -> bool {
     let mut map = [0u8; 128];
     bytes::put(&mut map, 0, good_map);

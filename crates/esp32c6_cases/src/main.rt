@@ -3,18 +3,17 @@ mod calls;
 
 use replay::Layout;
 
+const CALLS: Layout = Layout {
+    case: 24,
+    per_dump: 128,
+};
+
 // Compares the calls to their end; each starts from a copy of the map.
 fn replay_calls(name: &[u8], map: &[u8]) {
-    let layout = Layout {
-        case: 24,
-        per_dump: 128,
-    };
-    let mut words = [0u32; replay::WORDS];
-    let mut case = [0u8; replay::CASE];
-    let mut run = replay::open(name, layout, &mut words, &mut case);
+    let mut run = replay::open(name, CALLS);
     while 0 < run.left {
-        let same = calls::same_call(map, &words, &case);
-        run = replay::step(name, run, same, &mut words, &mut case);
+        let same = calls::same_call(map, &run.words, &run.case);
+        run = replay::step(name, run, same);
     }
     replay::close(name, run);
 }

@@ -64,7 +64,7 @@ fn call_answer(dump: &[u32], map: &[u8], case: &[u8]) -> Answer {
 }
 
 // Whether a call is answered as the case says.
-pub(crate) fn same_call(words: &[u32; replay::WORDS], case: &[u8; replay::CASE]) -> bool {
+pub(crate) fn same_call<'a>(words: &'a [u32; replay::WORDS], case: &'a [u8; replay::CASE]) -> bool {
     let map = bytes::part(case, 0, bytes::number8(case, 16) as usize);
     let dump = replay::lent(words, bytes::number8(case, 17));
     answer::same(

@@ -3,18 +3,17 @@ mod calls;
 
 use replay::Layout;
 
+const CALLS: Layout = Layout {
+    case: 28,
+    per_dump: 64,
+};
+
 // Compares the calls to their end.
 fn replay_calls(name: &[u8]) {
-    let layout = Layout {
-        case: 28,
-        per_dump: 64,
-    };
-    let mut words = [0u32; replay::WORDS];
-    let mut case = [0u8; replay::CASE];
-    let mut run = replay::open(name, layout, &mut words, &mut case);
+    let mut run = replay::open(name, CALLS);
     while 0 < run.left {
-        let same = calls::same_call(&words, &case);
-        run = replay::step(name, run, same, &mut words, &mut case);
+        let same = calls::same_call(&run.words, &run.case);
+        run = replay::step(name, run, same);
     }
     replay::close(name, run);
 }

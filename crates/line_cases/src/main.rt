@@ -34,7 +34,7 @@ fn layout_of(list: List) -> Layout {
 }
 
 // Whether the library answers a case as the list says.
-fn same(list: List, words: &[u32; replay::WORDS], case: &[u8; replay::CASE]) -> bool {
+fn same<'a>(list: List, words: &'a [u32; replay::WORDS], case: &'a [u8; replay::CASE]) -> bool {
     match list {
         List::Decode => decode::same_decode(words, case),
         List::Convert => convert::same_convert(case),
@@ -45,12 +45,10 @@ fn same(list: List, words: &[u32; replay::WORDS], case: &[u8; replay::CASE]) -> 
 
 // Compares a list to its end.
 fn replay_list(list: List, name: &[u8]) {
-    let mut words = [0u32; replay::WORDS];
-    let mut case = [0u8; replay::CASE];
-    let mut run = replay::open(name, layout_of(list), &mut words, &mut case);
+    let mut run = replay::open(name, layout_of(list));
     while 0 < run.left {
-        let same = same(list, &words, &case);
-        run = replay::step(name, run, same, &mut words, &mut case);
+        let same = same(list, &run.words, &run.case);
+        run = replay::step(name, run, same);
     }
     replay::close(name, run);
 }

@@ -24,38 +24,36 @@ pub struct Layout {
     pub per_dump: u64,
 }
 
-// A list on its way. `left` is 0 at the list's end and falls with each case: a loop that runs while it isn't 0 ends.
+// A list on its way: the words of the last dump, with zeros behind them, and the case that comes next, at the start of its room.
+// `left` is 0 at the list's end and falls with each case: a loop that runs while it isn't 0 ends.
 pub struct Run {
+    pub words: [u32; WORDS],
+    pub case: [u8; CASE],
+    pub left: u64,
     fd: i32,
     layout: Layout,
     compared: u64,
     differ: u64,
-    pub left: u64,
 }
 
-// Opens a list, and reads its first case to the start of the room for one. Words past a dump's 88 stay as they are.
-pub fn open(name: &[u8], layout: Layout, words: &mut [u32; WORDS], case: &mut [u8; CASE]) -> Run {
-    let run = Run {
+// Opens a list, and reads its first case.
+pub fn open(name: &[u8], layout: Layout) -> Run {
+    next(Run {
+        words: [0; WORDS],
+        case: [0; CASE],
+        left: u64::MAX,
         fd: os::open_read(name),
         layout,
         compared: 0,
         differ: 0,
-        left: u64::MAX,
-    };
-    next(run, words, case)
+    })
 }
 
 // Counts the case, by whether it is answered alike, and reads the next one.
-pub fn step(
-    name: &[u8],
-    run: Run,
-    same: bool,
-    words: &mut [u32; WORDS],
-    case: &mut [u8; CASE],
-) -> Run
+pub fn step(name: &[u8], run: Run, same: bool) -> Run
     ensures { λ r. ⌜ r .left ≤ run .left - 1 ⌝ }
 {
-    next(count(name, run, same), words, case)
+    next(count(name, run, same))
 }
 
 // Writes the list's closing line.
@@ -93,15 +91,20 @@ fn name_difference(name: &[u8], case: u64, before: u64) {
 }
 
 // Reads the next case, and before it a dump where one is due.
-fn next(mut run: Run, words: &mut [u32; WORDS], case: &mut [u8; CASE]) -> Run
+fn next(mut run: Run) -> Run
     ensures { λ r. ⌜ r .left ≤ run .left - 1 ⌝ }
 {
     let layout = run.layout;
+    let left = run.left;
     if dump_due(layout.per_dump, run.compared) {
-        read_dump(run.fd, words);
+        let mut words = run.words;
+        read_dump(run.fd, &mut words);
+        run.words = words;
     }
-    let whole = read_case(run.fd, layout.case, case);
-    run.left = left_after(run.left, whole);
+    let mut case = run.case;
+    let whole = read_case(run.fd, layout.case, &mut case);
+    run.case = case;
+    run.left = left_after(left, whole);
     run
 }
 
@@ -114,7 +117,7 @@ fn dump_due(per_dump: u64, compared: u64) -> bool {
 }
 
 // Reads a dump, each word low byte first. Bytes that the list hasn't count as 0.
-fn read_dump(fd: i32, words: &mut [u32]) {
+fn read_dump(fd: i32, words: &mut [u32; WORDS]) {
     let mut bytes = [0u8; 352];
     io::read_full(fd, &mut bytes);
     put_words(&bytes, words);
@@ -127,10 +130,15 @@ fn put_words(bytes: &[u8], words: &mut [u32]) {
     }
 }
 
+// Reads the first n bytes of a room, and tells whether there were so many.
+fn read_start(fd: i32, n: usize, room: &mut [u8]) -> bool {
+    let most = at_most(n, room.len());
+    io::read_full(fd, &mut room[0..most]) == n
+}
+
 // Whether there was a whole case.
-fn read_case(fd: i32, size: usize, case: &mut [u8]) -> bool {
-    let n = at_most(size, case.len());
-    io::read_full(fd, &mut case[0..n]) == size
+fn read_case(fd: i32, size: usize, case: &mut [u8; CASE]) -> bool {
+    read_start(fd, size, case)
 }
 
 // A list ends with its last whole case.

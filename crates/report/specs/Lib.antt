@@ -1,4 +1,4 @@
-pub mod Lines
+pub mod Output
 pub mod Part
 pub mod Private
 pub mod Step

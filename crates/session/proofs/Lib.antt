@@ -1,3 +1,1 @@
 pub mod Cuts
-pub mod Loads
-pub mod Unique

@@ -1,3 +1,1 @@
-pub mod Fault
-pub mod Load
 pub mod Turns

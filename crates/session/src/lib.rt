@@ -1,4 +1,2 @@
-// The desk's work over its files: loading dumps, what is wrong with a file, and answering a log part by part.
+// The desk's work over its files.
 pub mod desk;
-mod fault;
-pub mod load;

@@ -4,10 +4,10 @@ use Rattle.efuse_cases.proofs.replay_list.Statement.{statement}
 use Rattle.efuse_cases.proofs.replay_list.Tie as tie
 
 abbrev Inv-loop : tie.InvT-loop
-Inv-loop list name good-maps words₀ case₀ run₀ words case run = Unit {0}
+Inv-loop list name good-maps run₀ run = Unit {0}
 
 abbrev μ-loop : tie.MeasureT-loop
-μ-loop list name good-maps words₀ case₀ run₀ words case run = run .left
+μ-loop list name good-maps run₀ run = run .left
 
 layout-of-requires : tie.Need-layout-of-requires Inv-loop μ-loop
 layout-of-requires c κs = search needs

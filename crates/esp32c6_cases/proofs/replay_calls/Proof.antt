@@ -4,10 +4,10 @@ use Rattle.esp32c6_cases.proofs.replay_calls.Statement.{statement}
 use Rattle.esp32c6_cases.proofs.replay_calls.Tie as tie
 
 abbrev Inv-loop : tie.InvT-loop
-Inv-loop name map words₀ case₀ run₀ words case run = Unit {0}
+Inv-loop name map run₀ run = Unit {0}
 
 abbrev μ-loop : tie.MeasureT-loop
-μ-loop name map words₀ case₀ run₀ words case run = run .left
+μ-loop name map run₀ run = run .left
 
 open-requires : tie.Need-open-requires Inv-loop μ-loop
 open-requires c κs = search needs
