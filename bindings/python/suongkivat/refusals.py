@@ -32,7 +32,7 @@ WORDS = {
         "this chip has no such code; esp-hal answers `None` there",
     ),
     13: ("line answer above 4095 given to the curve", "see where that voltage came from"),
-    14: ("no curve for that chip and unit", "ask only where docs/RULES.md (curves) has a table"),
+    14: ("no curve for that chip and unit", "ask only for a chip and a unit that have a curve"),
     15: (
         "board above 1, or a sample's last byte above 7",
         "distrust the log: a byte was lost or the layout is another",

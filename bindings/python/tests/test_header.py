@@ -106,5 +106,6 @@ class Header(unittest.TestCase):
 
     def test_advice_is_that_of_the_rules(self):
         rows = re.findall(r"^\| (\d+) \| `SKV_\w+` \| .* \| (.*?) \|$", (ROOT / "docs/RULES.md").read_text(), flags=re.M)
-        told = {int(number): re.sub(r"\[(.*?)\]\(#.*?\)", r"docs/RULES.md (\1)", advice) for number, advice in rows}
+        # a link to another place of the page is left out
+        told = {int(number): re.sub(r" \(\[[^]]*\]\(#[^)]*\)\)", "", advice) for number, advice in rows}
         self.assertEqual({number: advice for number, (_, advice) in refusals.WORDS.items()}, told)
