@@ -1,6 +1,6 @@
 #!/usr/bin/env python3
-"""day: Suongkivat from Python: the records of two boards, a few counts by each, and a log's samples as the desk program answers them. Run in
-a folder with field.bin, reference.bin, map.bin and samples.bin, with the package of bindings/python on PYTHONPATH; examples/run does both.
+"""day: Suongkivat from Python: the records of two boards, a few counts by each, and a log's samples as the desk program answers them. Run
+in a folder with field.bin, reference.bin, map.bin and samples.bin, with bindings/python on PYTHONPATH; examples/run does both.
 """
 import pathlib
 

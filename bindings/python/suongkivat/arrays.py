@@ -42,7 +42,7 @@ def written_lent(memory: Any) -> Tuple[Any, int]:
     """
     view = memoryview(memory)
     if view.readonly or view.ndim != 1 or not view.c_contiguous or view.format.lstrip("@=<") != "H":
-        raise TypeError("millivolts are written into memory of 16 bits a number, without sign, one after the other: numpy.uint16, array('H')")
+        raise TypeError("millivolts are written into numbers of 16 bits without sign, one after the other: numpy.uint16, array('H')")
     if len(view) == 0:
         return (c_uint16 * 1)(), 0
     return (c_uint16 * len(view)).from_buffer(memory), len(view)

@@ -29,7 +29,9 @@ def read_field_u32(dump: DumpSource, block: SupportsIndex, bit_start: SupportsIn
     return int(ask("skv_read_field_u32", *dump_lent(dump), _field(block, bit_start, bit_count)).value)
 
 
-def read_field_le(dump: DumpSource, block: SupportsIndex, bit_start: SupportsIndex, bit_count: SupportsIndex, length: SupportsIndex) -> bytes:
+def read_field_le(
+    dump: DumpSource, block: SupportsIndex, bit_start: SupportsIndex, bit_count: SupportsIndex, length: SupportsIndex
+) -> bytes:
     """A field as so many bytes, low first, with zeros behind its last bit. Refusals 1, 4, 5."""
     n = held("a length", length, 64)
     # Empty memory too is at a place.
@@ -46,6 +48,6 @@ def check_map(chip: SupportsIndex, field_map: Bytes) -> None:
 
 
 def view(field_dump: Dump, reference_dump: Dump, board: SupportsIndex, block: SupportsIndex) -> memoryview:
-    """The eight words of a board's block, as a part of its dump, which isn't copied. Only the chosen dump is looked at. Refusals 15, 1, 4."""
+    """The eight words of a board's block, as a part of its dump, not copied. Only the chosen dump is looked at. Refusals 15, 1, 4."""
     found = ask("skv_view", *field_dump.lent, *reference_dump.lent, held("a board", board, 8), held("a block", block, 8))
     return (field_dump if found.board == 0 else reference_dump).part(found.first, found.words)

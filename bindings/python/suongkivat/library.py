@@ -50,7 +50,8 @@ def _project() -> Iterator[str]:
 
 def _installed() -> Iterator[str]:
     try:
-        asked = subprocess.run(["pkg-config", "--variable=libdir", "suongkivat"], stdout=subprocess.PIPE, stderr=subprocess.DEVNULL, check=True)
+        command = ["pkg-config", "--variable=libdir", "suongkivat"]
+        asked = subprocess.run(command, stdout=subprocess.PIPE, stderr=subprocess.DEVNULL, check=True)
     except (OSError, subprocess.CalledProcessError):
         return
     folder = pathlib.Path(os.fsdecode(asked.stdout).rstrip("\n"))
@@ -93,8 +94,8 @@ def loaded() -> Loaded:
             looked.append(path)
     for name in _system():
         return Loaded(name, _declared(name))
-    places_told = "".join(f"\n  {path}" for path in looked)
-    raise LibraryMissing(f"there is no {NAME}. It was looked for here, by pkg-config, and where the system has libraries:{places_told}\n{HOW}")
+    here = "".join(f"\n  {path}" for path in looked)
+    raise LibraryMissing(f"there is no {NAME}. It was looked for by pkg-config, where the system has libraries, and here:{here}\n{HOW}")
 
 
 def ask(name: str, *arguments: Any) -> Any:

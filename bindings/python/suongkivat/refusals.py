@@ -51,7 +51,8 @@ class Refused(ValueError):
         super().__init__(number, at)
         self.number = number
         self.at = at
-        self.words, self.advice = WORDS.get(number, ("a number that this package doesn't know", "take the package of the library's version"))
+        unknown = "a number that this package doesn't know", "take the package of the library's version"
+        self.words, self.advice = WORDS.get(number, unknown)
 
     def __str__(self) -> str:
         place = "" if self.at is None else f" (the count at place {self.at})"

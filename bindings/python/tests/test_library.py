@@ -29,7 +29,8 @@ class Library(unittest.TestCase):
         """What `python3 -m suongkivat` ends with, writes and tells."""
         there = {name: value for name, value in os.environ.items() if name not in SOUGHT}
         there.update(variables, PYTHONPATH=str(self.room / "site"), PYTHONDONTWRITEBYTECODE="1")
-        ran = subprocess.run([sys.executable, "-m", "suongkivat", *words], cwd=self.room, env=there, stdout=subprocess.PIPE, stderr=subprocess.PIPE)
+        command = [sys.executable, "-m", "suongkivat", *words]
+        ran = subprocess.run(command, cwd=self.room, env=there, stdout=subprocess.PIPE, stderr=subprocess.PIPE)
         return ran.returncode, ran.stdout.decode(), ran.stderr.decode()
 
     def finds(self, path, **variables):
