@@ -25,28 +25,25 @@ impl Tally {
         self.differ += u64::from(crates != documents);
     }
 
-    fn report(self) {
+    /// Tells both, and gives the second.
+    fn report(self) -> u64 {
         println!("{}: {} compared, {} differ", self.what, self.compared, self.differ);
+        self.differ
     }
 }
 
-pub fn all() {
-    marked();
-    fields();
-    vref();
-    two_point();
-    convert();
-    s2_readings();
-    s2_codes();
-    c6_codes();
+/// How many answers differ.
+pub fn all() -> u64 {
+    let parts = [marked, fields, vref, two_point, convert, s2_readings, s2_codes, c6_codes];
+    parts.iter().map(|part| part()).sum()
 }
 
 /// Document 01's marked cases, as far as a call shows them.
-fn marked() {
+fn marked() -> u64 {
     let mut tally = Tally::new("marked cases");
     marked_line(&mut tally);
     marked_codes(&mut tally);
-    tally.report();
+    tally.report()
 }
 
 /// Cases 1, 3, 4, 5, 6; case 2 is in every two-point code.
@@ -95,7 +92,7 @@ fn marked_codes(tally: &mut Tally) {
 }
 
 /// Every start and count inside the block, at 8, 16 and 32 bits and into 33 bytes.
-fn fields() {
+fn fields() -> u64 {
     let mut tally = Tally::new("fields");
     let noise = &mut Noise::new(101);
     for dump in [[0; 88], [u32::MAX; 88], noise.dump(), noise.dump()] {
@@ -110,7 +107,7 @@ fn fields() {
             }
         }
     }
-    tally.report();
+    tally.report()
 }
 
 fn record((coeff_a, coeff_b): (i64, i64), vref: u32, unit: usize, atten: usize) -> Record {
@@ -120,7 +117,7 @@ fn record((coeff_a, coeff_b): (i64, i64), vref: u32, unit: usize, atten: usize) 
 }
 
 /// Every Vref code, unit and attenuation, without the reserve bit and with each two-point code zero in turn.
-fn vref() {
+fn vref() -> u64 {
     let mut tally = Tally::new("Vref decoding");
     for (code, unit, atten) in codes(32, 2, 4) {
         for zero in 2..7 {
@@ -131,7 +128,7 @@ fn vref() {
             tally.same(line::decode(&dump, &map, unit as u8, atten as u8).ok(), Some(document));
         }
     }
-    tally.report();
+    tally.report()
 }
 
 /// Numbers below three bounds.
@@ -140,7 +137,7 @@ fn codes(first: u32, units: usize, attens: usize) -> impl Iterator<Item = (u32, 
 }
 
 /// Every pair of two-point codes that aren't zero, every unit and attenuation: a record, or the panic that is refusal 9.
-fn two_point() {
+fn two_point() -> u64 {
     let mut tally = Tally::new("two-point decoding");
     let mut panics = 0;
     for (pair, unit, atten) in codes(128 * 512, 2, 4) {
@@ -153,12 +150,13 @@ fn two_point() {
         panics += u64::from(decoded.is_none());
         tally.same(decoded, document::two_point(unit, atten, low, high).map(|ab| record(ab, 0, unit, atten)));
     }
-    tally.report();
+    let differ = tally.report();
     println!("  of them refused with 9 where the crate panics: {panics}");
+    differ
 }
 
 /// Every count of every Vref record and of records drawn from the whole range.
-fn convert() {
+fn convert() -> u64 {
     let mut tally = Tally::new("converting");
     let noise = &mut Noise::new(102);
     let mut records: Vec<Record> =
@@ -175,11 +173,11 @@ fn convert() {
             tally.same(line::convert(record, raw).map(i64::from), Ok(document::convert(record, raw)));
         }
     }
-    tally.report();
+    tally.report()
 }
 
 /// Every version, unit, attenuation and parameter, with the eFuse and without.
-fn s2_readings() {
+fn s2_readings() -> u64 {
     let mut tally = Tally::new("S2 readings");
     let noise = &mut Noise::new(103);
     let dumps = [[0; 88], [u32::MAX; 88]].into_iter().chain((0..300).map(|_| noise.dump()));
@@ -192,11 +190,11 @@ fn s2_readings() {
             tally.same(s2::skipped(version, unit, atten, param), Ok(document::reading(None, tag)));
         }
     }
-    tally.report();
+    tally.report()
 }
 
 /// Every version field and crypt count of 8 bits.
-fn s2_codes() {
+fn s2_codes() -> u64 {
     let mut tally = Tally::new("S2 versions, codes, flash encryption");
     for (bits, unit, atten) in codes(256, 2, 4) {
         let (dump, map) = dump_and_map(MapChip::S2, &[bits, bits]);
@@ -209,11 +207,11 @@ fn s2_codes() {
         tally.same(s2::cal_code(&dump, &map, unit as u8, atten as u8), Ok(code(1)));
         tally.same(s2::cal_mv(unit as u8, atten as u8), Ok([600, 800, 1000, 2000][atten]));
     }
-    tally.report();
+    tally.report()
 }
 
 /// Every init, calibration and channel code, minor version and channel.
-fn c6_codes() {
+fn c6_codes() -> u64 {
     let mut tally = Tally::new("C6 versions and codes");
     let version = |minor: u8| minor.min(2);
     for (code, minor, atten) in codes(32768, 3, 4) {
@@ -241,5 +239,5 @@ fn c6_codes() {
         let mv = if version(minor) == 2 { [750, 1000, 1500, 2800] } else { [400, 550, 750, 1370] };
         tally.same(c6::cal_mv(minor, unit as u8, atten as u8), Ok(mv[atten]));
     }
-    tally.report();
+    tally.report()
 }

@@ -1,0 +1,59 @@
+"""Why a call is turned down, and what to do about it, by number. The words are those of include/suongkivat.h, what to do is that of
+docs/RULES.md; tests/test_header.py holds both to them.
+"""
+from __future__ import annotations
+
+from typing import Optional
+
+WORDS = {
+    1: ("the dump hasn't 88 words", "dump the board again; a dump file has 352 bytes"),
+    2: ("the map's length isn't its chip's", "take the map of this chip, and see that it is whole"),
+    3: (
+        "a map record's id or a zero byte is wrong",
+        "mend that record: ids in order, each once; look for a shifted byte",
+    ),
+    4: ("block above 10", "mend the block"),
+    5: (
+        "bit start above 255, or start + count above 256",
+        "mend bit start or count: a field stays inside its block",
+    ),
+    6: ("a map record's bit count isn't its id's", "mend the count by the table of ids"),
+    7: ("unit above 1 or attenuation above 3", "ask for a unit and an attenuation that exist"),
+    8: ("count above 4095", "distrust the log: no converter of 12 bits gives it"),
+    9: (
+        "the two points leave the line no offset",
+        "see that the map is this board's; if it is, take no voltages from this unit of the board. docs/DIFFERENCES.md says what firmware "
+        "may make of it",
+    ),
+    10: ("line record outside its ranges", "decode it again; a stored record was damaged"),
+    11: ("a stretch whose first count plus length is above 4096", "lend a shorter list"),
+    12: (
+        "no code in that version: S2 version not 2, or C6 version not 1 or 2",
+        "this chip has no such code; esp-hal answers `None` there",
+    ),
+    13: ("line answer above 4095 given to the curve", "see where that voltage came from"),
+    14: ("no curve for that chip and unit", "ask only for a chip and a unit that have a curve"),
+    15: (
+        "board above 1, or a sample's last byte above 7",
+        "distrust the log: a byte was lost or the layout is another",
+    ),
+    16: ("log ends inside a record", "the log was cut off; what came before it stands"),
+}
+
+
+class Refused(ValueError):
+    """A call was turned down. `number` says why, by the table of docs/RULES.md; `words` says it in words, and `advice` what to do.
+
+    `at` is the place of the first count that was refused, where many were handed in at once; else None.
+    """
+
+    def __init__(self, number: int, at: Optional[int] = None) -> None:
+        super().__init__(number, at)
+        self.number = number
+        self.at = at
+        unknown = "a number that this package doesn't know", "take the package of the library's version"
+        self.words, self.advice = WORDS.get(number, unknown)
+
+    def __str__(self) -> str:
+        place = "" if self.at is None else f" (the count at place {self.at})"
+        return f"refused {self.number}: {self.words}{place}; {self.advice}"

@@ -1,0 +1,90 @@
+"""The desk program and the binding answer logs alike: the gate's cases of the desk, and folders that are drawn at random and given to
+`skv desk`. SEED in the environment is the first folder's seed.
+"""
+import os
+import pathlib
+import random
+import subprocess
+import tempfile
+import unittest
+
+import suongkivat
+
+from .project import CRATES, ROOT, field_map
+
+FOLDERS = 24
+MISSING = 255
+BIT_COUNTS = 5, 1, 7, 7, 9, 9
+
+
+def lines(field, reference, map_bytes, log):
+    """What the desk program writes, by the binding."""
+    written = []
+    try:
+        for answer in suongkivat.Session(field, reference, map_bytes).answers(log):
+            board = "FR"[answer.sample.board] if answer.sample.board < 2 else "?"
+            told = answer.millivolts if answer.refused is None else f"refused {answer.refused.number}"
+            written.append(f"{answer.number} {board} {answer.sample.raw} {told}\n")
+    except suongkivat.Refused as refused:
+        written.append(f"refused {refused.number}\n")
+    return "".join(written)
+
+
+def noise_dump(draw):
+    """A dump: noise, or bits that are mostly set, mostly clear or all clear; now and then of another length."""
+    words = [draw.choice((draw.getrandbits(32), 0xFFFFFFFF, 0)) if draw.random() < 0.5 else draw.getrandbits(32) for _ in range(88)]
+    data = bytes(352) if draw.random() < 0.1 else b"".join(word.to_bytes(4, "little") for word in words)
+    return data[: draw.choice((0, 351, 348))] if draw.random() < 0.1 else data
+
+
+def noise_map(draw):
+    """A map with its fields anywhere; now and then one byte of it is another, or it is cut."""
+    places = [(k + 1, draw.randrange(11), draw.randrange(257 - count), count) for k, count in enumerate(BIT_COUNTS)]
+    places[1] = (2, *draw.choice(((2, draw.randrange(256)), places[1][1:3])), 1)
+    data = bytearray(field_map(*places))
+    if draw.random() < 0.2:
+        data[draw.randrange(48)] = draw.randrange(256)
+    return bytes(data[: draw.choice((0, 47))] if draw.random() < 0.05 else data)
+
+
+def noise_log(draw):
+    """A log: mostly good samples of a few keys, and then others; now and then it ends inside a sample."""
+    log = bytearray()
+    for _ in range(draw.randrange(2000)):
+        raw = draw.randrange(4096) if draw.random() < 0.95 else draw.randrange(65536)
+        board = draw.randrange(2) if draw.random() < 0.97 else draw.randrange(256)
+        last = draw.randrange(8) if draw.random() < 0.97 else draw.randrange(256)
+        log += raw.to_bytes(2, "little") + bytes((board, last))
+    return bytes(log) + bytes(draw.randrange(4) if draw.random() < 0.3 else 0)
+
+
+class Desk(unittest.TestCase):
+    maxDiff = 2000
+
+    def test_the_gate_s_cases(self):
+        data = CRATES / "desk_cases/data"
+        cases = (data / "cases").read_bytes()
+        written = []
+        for at in range(0, len(cases), 4):
+            named = zip("ddms", cases[at : at + 4])
+            files = [b"" if number == MISSING else (data / f"{kind}{number:03}").read_bytes() for kind, number in named]
+            written.append(f"case {at // 4}\n" + lines(*files))
+        self.assertGreaterEqual(len(written), 102)
+        self.assertEqual("".join(written), (CRATES / "desk_cases/stdout").read_text())
+
+    def test_folders_of_noise(self):
+        seed = int(os.environ.get("SEED", "1"))
+        seen = set()
+        for k in range(seed, seed + FOLDERS):
+            draw = random.Random(k)
+            files = noise_dump(draw), noise_dump(draw), noise_map(draw), noise_log(draw)
+            with tempfile.TemporaryDirectory() as room:
+                for name, data in zip(("field", "reference", "map", "samples"), files):
+                    pathlib.Path(room, f"{name}.bin").write_bytes(data)
+                desk = subprocess.run([str(ROOT / "skv"), "desk", room], stdout=subprocess.PIPE, stderr=subprocess.PIPE)
+            self.assertIn(desk.returncode, (0, 1), desk.stderr)
+            ours = lines(*files)
+            self.assertEqual(desk.stdout.decode(), ours, f"seed {k}")
+            seen.update(line.split()[-1] for line in ours.splitlines() if "refused" in line)
+        # The folders are no comparison of refusals alone, nor without them.
+        self.assertGreaterEqual(len(seen), 5)

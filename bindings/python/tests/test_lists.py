@@ -1,0 +1,190 @@
+"""The lists that the gate replays (crates/*_cases/data, with esp-hal's answers), through the binding. tests/oracle/README.md has their
+formats. As many cases are compared as the gate's programs compare, by their stdout.
+"""
+import re
+import struct
+import unittest
+from array import array
+
+import suongkivat
+from suongkivat import LineRecord, c6, s2
+
+from .project import CRATES, answered, number_of
+
+DUMP_BYTES = 352
+BEFORE = 65535
+
+
+def cases(program, name, size, per_dump=0):
+    """A list's cases, each with the words of its dump and the zeros behind them."""
+    data = (CRATES / program / "data" / name).read_bytes()
+    at, words, number = 0, (), 0
+    while at < len(data):
+        if per_dump and number % per_dump == 0:
+            words = struct.unpack_from("<88I", data, at) + (0,) * 8
+            at += DUMP_BYTES
+        yield words, data[at : at + size]
+        at += size
+        number += 1
+
+
+def compared(program, name):
+    """How many cases of a list the gate's program compares."""
+    return int(re.search(rf"^{name}: (\d+) compared, 0 differ$", (CRATES / program / "stdout").read_text(), flags=re.M)[1])
+
+
+def record_of(case):
+    a, b, vref, unit, lookup = struct.unpack_from("<IIIBB", case)
+    return LineRecord(a, b, vref, unit, lookup == 1)
+
+
+class Lists(unittest.TestCase):
+    def replay(self, program, name, size, same, per_dump=0):
+        """Compares a list to its end: `same` gives what the library answers and what the list has."""
+        number = 0
+        for words, case in cases(program, name, size, per_dump):
+            got, listed = same(words, case)
+            self.assertEqual(got, listed, f"case {number} of {program}/{name}")
+            number += 1
+        self.assertEqual(number, compared(program, name))
+
+    def test_fields(self):
+        def same(words, case):
+            lent, block, start, count, number, at8, at16, at32 = struct.unpack("<BBHHBBH2xI", case)
+            dump = suongkivat.Dump(words[:lent])
+            reads = suongkivat.read_field_u8, suongkivat.read_field_u16, suongkivat.read_field_u32
+            return [answered(read, dump, block, start, count) for read in reads], [(number, at) for at in (at8, at16, at32)]
+
+        self.replay("efuse_cases", "fields", 16, same, 256)
+
+    def test_bytes(self):
+        def same(words, case):
+            lent, block, start, count, n, number = struct.unpack_from("<BBHHBB", case)
+            got = answered(suongkivat.read_field_le, words[:lent], block, start, count, n)
+            return got, (number, 0 if number else case[8 : 8 + n])
+
+        self.replay("efuse_cases", "bytes", 48, same, 64)
+
+    def test_maps(self):
+        good = (CRATES / "efuse_cases/data/good_maps").read_bytes()
+        chips = suongkivat.Chip.ESP32, suongkivat.Chip.S2, suongkivat.Chip.C6
+
+        def same(_, case):
+            which, length, place, byte, place2, byte2, number, _ = case
+            changed = bytearray(good[128 * which + 8 : 128 * which + 128] + bytes(256))
+            changed[place], changed[place2] = byte, byte2
+            return number_of(suongkivat.check_map, chips[good[128 * which]], changed[:length]), number
+
+        self.replay("efuse_cases", "maps", 8, same)
+
+    def test_decode(self):
+        def same(words, case):
+            length, lent, unit, attenuation, number, lookup, vref, a, b = struct.unpack_from("<BBBBBBHII", case, 48)
+            listed = LineRecord(a, b, vref, unit, bool(lookup))
+            got = answered(suongkivat.decode, words[:lent], case[:length], unit, attenuation)
+            board = suongkivat.Board(words[:lent], case[:length])
+            self.assertEqual(answered(board.record, unit, attenuation), got)
+            return got, (number, 0 if number else listed)
+
+        self.replay("line_cases", "decode", 64, same, 32)
+
+    def test_convert(self):
+        def same(_, case):
+            raw, number, millivolts = struct.unpack_from("<HBxH", case, 14)
+            record = record_of(case)
+            self.assertEqual(number_of(record.check), 10 if number == 10 else 0)
+            many = answered(lambda: [int(mv) for mv in record.millivolts([raw])][0])
+            return [answered(record.convert, raw), many], [(number, millivolts)] * 2
+
+        self.replay("line_cases", "convert", 20, same)
+
+    def test_fill(self):
+        cuts = (1, 0, 4096), (2, 2048, 2048), (64, 64, 64), (4096, 1, 1), (111, 37, 37), (64, 4032, 100), (4096, 2891, 3)
+
+        def cut(record, stretches, stride, n):
+            table = array("H", [BEFORE]) * 4096
+            part = memoryview(table)
+            first = 0
+            for _ in range(stretches):
+                record.fill(first, part[first : first + n])
+                first = (first + stride) % 4096
+            return table
+
+        def same(_, case):
+            record, listed = record_of(case), list(struct.unpack_from("<4096H", case, 16))
+            self.assertEqual(list(record.table()), listed)
+            return [list(cut(record, *way)) for way in cuts], [listed] * len(cuts)
+
+        self.replay("line_cases", "fill", 8208, same)
+
+    def test_stretches(self):
+        def same(_, case):
+            first, n, number, total = struct.unpack_from("<HHBxI", case, 14)
+            record = record_of(case)
+            room = array("H", [BEFORE]) * 4104
+            got = number_of(record.fill, first, memoryview(room)[:n])
+            behind = n if got == 0 else 0
+            self.assertEqual(set(room[behind:]), {BEFORE})
+            written = sum(room[:behind])
+            table = answered(lambda: sum(int(mv) for mv in record.table(first, n)))
+            return [(got, written), table], [(number, total)] * 2
+
+        self.replay("line_cases", "stretches", 24, same)
+
+    def test_s2(self):
+        readings = s2.reading_vlow, s2.reading_vhigh, s2.reading_vinit
+        skipped = s2.skipped_vlow, s2.skipped_vhigh, s2.skipped_vinit
+
+        def same(words, case):
+            length, lent, call, version, unit, attenuation, parameter, number, value = struct.unpack_from("<8Bi", case, 16)
+            dump, field_map = words[:lent], case[:length]
+            asked = (
+                (s2.version, dump, field_map),
+                (s2.flash_encryption, dump, field_map),
+                (readings[parameter], dump, version, unit, attenuation),
+                (skipped[parameter], version, unit, attenuation),
+                (s2.init_code, dump, field_map, unit, attenuation),
+                (s2.cal_code, dump, field_map, unit, attenuation),
+                (s2.cal_mv, unit, attenuation),
+            )[call]
+            return answered(*asked), (number, value)
+
+        self.replay("esp32s2_cases", "calls", 28, same, 64)
+
+    def test_c6(self):
+        good = (CRATES / "esp32c6_cases/data/map").read_bytes()
+
+        def same(words, case):
+            place, length, lent, call, minor, unit, attenuation, channel, number, value = struct.unpack_from("<9B3xi", case, 8)
+            changed = bytearray(good + bytes(8))
+            changed[8 * place : 8 * place + 8] = case[:8]
+            dump, field_map = words[:lent], changed[:length]
+            asked = (
+                (c6.version, minor),
+                (c6.init_code, dump, field_map, minor, unit, attenuation),
+                (c6.cal_code, dump, field_map, minor, unit, attenuation),
+                (c6.get_chan_compens, dump, field_map, unit, channel, attenuation),
+                (c6.cal_mv, minor, unit, attenuation),
+            )[call]
+            return answered(*asked), (number, value)
+
+        self.replay("esp32c6_cases", "calls", 24, same, 128)
+
+    def test_curve_tables(self):
+        def same(_, case):
+            chip, minor, unit, attenuation = case[:4]
+            got = [suongkivat.correct(chip, unit, attenuation, line, minor) for line in range(4096)]
+            listed, answer = [], 0
+            for step in struct.unpack_from("<4096b", case, 4):
+                answer += step
+                listed.append(answer)
+            return got, listed
+
+        self.replay("curve_cases", "tables", 4100, same)
+
+    def test_curve_single(self):
+        def same(_, case):
+            chip, minor, unit, attenuation, line, answer, number = struct.unpack_from("<BBBBHHB", case)
+            return answered(suongkivat.correct, chip, unit, attenuation, line, minor), (number, answer)
+
+        self.replay("curve_cases", "single", 12, same)
