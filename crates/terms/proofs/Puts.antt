@@ -1,7 +1,7 @@
 -- Laws of writing into lent memory: nothing, one entry, and one text after another, which writes both. Assumes nothing.
 use mathlib.Core.Path.{_≡_, refl, sym, _∙_, ap}
 use mathlib.Core.List.{List, [], _∷_, _++_, append-assoc}
-use Prim.Native.Nat.{ℕ, _+_, _≤_, _<_}
+use Prim.Native.Nat.{ℕ, _+_, _-_, _≤_, _<_}
 use native.Mathlib.Nat.{add-assoc, add-zero}
 use native.Mathlib.Numerals.{add-one}
 use native.Mathlib.Omega.{arith}
@@ -9,28 +9,44 @@ use lib.ListN.{length, take, drop, set, getD, length-append, take-append-drop, l
 use lib.Seq.{set-split, take-at, drop-at, drop-drop, length-take-le, take-suc}
 use Rattle.terms.specs.Put.{written, Put}
 
+-- what comes after the text, by its place in the whole list
+written-flat : (before : List ℕ) (at : ℕ) (t : List ℕ) → written before at t ≡ take at before ++ (t ++ drop (at + length t) before)
+written-flat before at t =
+    let past : at + (at + length t - at) ≡ at + length t = omega arith in
+    ap (λ (r : List ℕ). take at before ++ (t ++ r)) (drop-drop (at + length t - at) at before ∙ ap (λ (n : ℕ). drop n before) past)
+
 module _ (before s : List ℕ) (at : ℕ) (h : at ≤ length before) where
+  abbrev flat : List ℕ
+  flat = take at before ++ (s ++ drop (at + length s) before)
+
   head-length : length (take at before ++ s) ≡ at + length s
   head-length = simp (length-append, length-take-le at before h)
 
   head : take (at + length s) (written before at s) ≡ take at before ++ s
-  head = rw (← append-assoc) (take-at (take at before ++ s) _ _ head-length)
+  head = ap (take (at + length s)) (written-flat before at s) ∙ rw (← append-assoc) (take-at (take at before ++ s) _ _ head-length)
 
   tail : (n : ℕ) → drop (at + length s + n) (written before at s) ≡ drop (at + length s + n) before
   tail n =
-      sym (drop-drop n (at + length s) (written before at s))
-      ∙ (ap (drop n) (rw (← append-assoc) (drop-at (take at before ++ s) _ _ head-length)) ∙ drop-drop n (at + length s) before)
+      ap (drop (at + length s + n)) (written-flat before at s)
+      ∙ sym (drop-drop n (at + length s) flat)
+      ∙ ap (drop n) (rw (← append-assoc) (drop-at (take at before ++ s) _ _ head-length))
+      ∙ drop-drop n (at + length s) before
 
   -- one text written after another
   written-more : (t : List ℕ) → written (written before at s) (at + length s) t ≡ written before at (s ++ t)
-  written-more t = rw (head, tail) (simp (append-assoc, length-append, add-assoc))
+  written-more t =
+      written-flat (written before at s) (at + length s) t
+      ∙ rw (head, tail) (simp (append-assoc, length-append, add-assoc))
+      ∙ sym (written-flat before at (s ++ t))
 
 pub put-none : (before : List ℕ) (at : ℕ) → at ≤ length before → Put before at [] at before
 put-none before at h =
-    record { past = rw add-zero; within = h; same = refl; content = rw add-zero (sym (take-append-drop at before)) }
+    record { past = rw add-zero; within = h; same = refl; content = sym (written-flat before at [] ∙ rw add-zero (take-append-drop at before)) }
 
 pub put-one : (before : List ℕ) (at b : ℕ) → at < length before → Put before at (b ∷ []) (at + 1) (set before at b)
-put-one before at b h = record { past = refl; within = omega arith; same = simp length-set; content = rw (set-split, ← add-one at) }
+put-one before at b h =
+    let flat : set before at b ≡ take at before ++ (b ∷ [] ++ drop (at + length (b ∷ [])) before) = rw (set-split, ← add-one at) in
+    record { past = refl; within = omega arith; same = simp length-set; content = flat ∙ sym (written-flat before at (b ∷ [])) }
 
 pub put-more : {before between after s t : List ℕ} {at m n : ℕ} → Put before at s m between → Put between m t n after
     → Put before at (s ++ t) n after
