@@ -4,9 +4,9 @@ use Prim.Native.Nat.{ℕ, _+_, _-_}
 use lib.Dec.{leb, eqb}
 use lib.IntN.{ℤ}
 use Rattle.lut.specs.Lookup.{numeratorAt, sumAt, voltageAt}
-use Rattle.line.specs.declared.record.LineRecord.{LineRecord}
+use Rattle.line_record.specs.declared.record.LineRecord.{LineRecord}
 use Rattle.line.specs.declared.lookup.Slope.{Slope}
-use Rattle.line.specs.Record.{recordRefusal}
+use Rattle.line_record.specs.Record.{recordRefusal}
 
 -- its numerator at a count, before 6400 is added
 abbrev pub lookupNumerator : LineRecord → ℕ → ℤ

@@ -7,7 +7,7 @@ use Rattle.terms.specs.declared.chip.Chip.{Chip}
 use Rattle.terms.specs.declared.chip.Chip.the-variants.{C3, S3}
 use Rattle.terms.specs.Voltage.{valueOf as voltageOf}
 use Rattle.efuse.specs.Field.{eight}
-use Rattle.line.specs.declared.record.LineRecord.{LineRecord}
+use Rattle.line_record.specs.declared.record.LineRecord.{LineRecord}
 use Rattle.esp32.specs.Code.{vrefOf, twoPointCode, lowOf, highOf}
 use Rattle.esp32.specs.Characterize.{topOf}
 use Rattle.esp32.specs.Decode.{decodeOf}

@@ -3,7 +3,7 @@ use mathlib.Core.Path.{_≡_}
 use Prim.Native.Nat.{ℕ}
 use Rattle.terms.specs.Refuse.{outcomeOf, numberOf}
 use Rattle.terms.proofs.Says.{outcome-says}
-use Rattle.line.specs.declared.record.LineRecord.{LineRecord}
+use Rattle.line_record.specs.declared.record.LineRecord.{LineRecord}
 use Rattle.stretch.specs.Fill.{fillRefusal}
 
 pub fill-says : (r : LineRecord) (first n : ℕ) → numberOf (outcomeOf (fillRefusal r first n)) ≡ fillRefusal r first n
