@@ -21,7 +21,7 @@ pub const COEFF_A_ROUND: u32 = 32768;
 
 pub const LUT_HIGH_THRESH: u32 = 2944;
 
-const BLEND: u32 = LUT_HIGH_THRESH - LUT_LOW_THRESH;
+pub const BLEND: u32 = LUT_HIGH_THRESH - LUT_LOW_THRESH;
 
 // The line's millivolts at a count.
 fn calculate_voltage_linear(cal: LineRecord, raw: u32) -> u32

@@ -67,6 +67,7 @@ pub(crate) fn calculate_voltage_lut(cal: LineRecord, raw: u32) -> u32
     lut_sum(here, there, raw) / LUT_SCALE
 }
 
+// The lookup's slope from one of its counts.
 fn step_slope(cal: LineRecord, raw: u32) -> Slope
     requires { ⌜ (recordRefusal cal ≡ 0) × (2880 ≤ raw) × (raw ≤ 4095) ⌝ }
     ensures { λ r. ⌜ r ≡ slopeFrom cal raw ⌝ }
