@@ -7,7 +7,7 @@ use Rattle.terms.specs.declared.quantity.Millivolt.{Millivolt}
 use Rattle.terms.specs.declared.code.Code.{Code}
 use Rattle.terms.specs.declared.reading.Reading.{Reading}
 use Rattle.terms.specs.declared.voltage.Voltage.{Voltage}
-use Rattle.terms.specs.Refuse.{numberOf}
+use Rattle.terms.specs.Refusal.{numberOf}
 use Rattle.terms.specs.Code as code
 use Rattle.terms.specs.Reading as reading
 use Rattle.terms.specs.Voltage as voltage

@@ -4,7 +4,7 @@ use mathlib.Core.List.{List}
 use Prim.Native.Nat.{ℕ}
 use lib.Dec.{eqb}
 use Rattle.terms.specs.declared.chip.MapChip.the-variants.{Esp32, S2, C6}
-use Rattle.terms.specs.Refuse.{outcomeOf}
+use Rattle.terms.specs.Refusal.{outcomeOf}
 use Rattle.maps.specs.Map.{mapRefusal}
 use Rattle.capi.specs.declared.answer.SkvOutcome.{SkvOutcome}
 use Rattle.capi.specs.Answer.{outcomeC}

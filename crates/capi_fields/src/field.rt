@@ -8,7 +8,7 @@ use efuse::field::EfuseField;
 use efuse::field::Read;
 use terms::refusal;
 ghost use mathlib.Core.Path.{_≡_};
-ghost use Rattle.terms.specs.Refuse.{outcomeOf};
+ghost use Rattle.terms.specs.Refusal.{outcomeOf};
 ghost use Rattle.dumps.specs.Dump.{eight};
 ghost use Rattle.efuse.specs.Field.{readRefusal, readOf, bytesRead};
 ghost use Rattle.capi.specs.Answer.{outcomeC};

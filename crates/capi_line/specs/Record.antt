@@ -1,7 +1,7 @@
 -- The line record, as C is handed and given it.
 use mathlib.Core.Bool.{not}
 use lib.Dec.{eqb}
-use Rattle.line.specs.declared.record.LineRecord.{LineRecord}
+use Rattle.line_record.specs.declared.record.LineRecord.{LineRecord}
 use Rattle.capi_line.specs.declared.record.SkvLineRecord.{SkvLineRecord}
 use Rattle.capi.specs.Answer.{yesOrNo}
 

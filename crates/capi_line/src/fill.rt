@@ -8,7 +8,7 @@ use stretch::fill;
 use terms::quantity::Count;
 ghost use mathlib.Core.Path.{_≡_};
 ghost use lib.ListN.{length};
-ghost use Rattle.terms.specs.Refuse.{outcomeOf};
+ghost use Rattle.terms.specs.Refusal.{outcomeOf};
 ghost use Rattle.stretch.specs.Fill.{fillRefusal, filled};
 ghost use Rattle.capi.specs.Answer.{outcomeC};
 ghost use Rattle.capi_line.specs.Record.{recordFrom};

@@ -2,11 +2,11 @@
 use capi::answer::SkvOutcome;
 use capi::answer::outcome_c;
 use capi::answer::yes_or_no;
-use line::record;
-use line::record::LineRecord;
+use line_record::record;
+use line_record::record::LineRecord;
 ghost use mathlib.Core.Path.{_≡_};
-ghost use Rattle.terms.specs.Refuse.{outcomeOf};
-ghost use Rattle.line.specs.Record.{recordRefusal};
+ghost use Rattle.terms.specs.Refusal.{outcomeOf};
+ghost use Rattle.line_record.specs.Record.{recordRefusal};
 ghost use Rattle.capi.specs.Answer.{outcomeC};
 ghost use Rattle.capi_line.specs.Record.{recordFrom, recordC};
 

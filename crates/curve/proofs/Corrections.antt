@@ -5,7 +5,7 @@ use Prim.Native.Nat.{ℕ, _≤_, _<_}
 use native.Mathlib.Omega.{arith}
 use Rattle.terms.specs.declared.chip.Chip.{Chip}
 use Rattle.terms.specs.declared.quantity.Millivolt.{Millivolt}
-use Rattle.terms.specs.Refuse.{unitRefusal}
+use Rattle.terms.specs.Refusal.{unitRefusal}
 use Rattle.terms.specs.When.{UnitWhen}
 use Rattle.terms.proofs.Exactly.{unit-exactly}
 use Rattle.terms.proofs.Refusals.{orElse-some, answered-good, answered-refused, unit-inside}

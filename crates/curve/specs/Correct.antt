@@ -6,7 +6,7 @@ use Rattle.terms.specs.declared.chip.Chip.{Chip}
 use Rattle.terms.specs.declared.quantity.Millivolt.{Millivolt}
 use Rattle.terms.specs.declared.voltage.Voltage.{Voltage}
 use Rattle.terms.specs.declared.voltage.Voltage.the-variants.{Value, Refused}
-use Rattle.terms.specs.Refuse.{refuse, orElse, answered, unitRefusal}
+use Rattle.terms.specs.Refusal.{refuse, orElse, answered, unitRefusal}
 use Rattle.curves.specs.Curves.{curveIn}
 use Rattle.curves.specs.Error.{correctedOf}
 use Rattle.curve.specs.Table.{missing, tableOf}

@@ -4,7 +4,7 @@ use mathlib.Core.List.{List}
 use Prim.Native.Nat.{ℕ}
 use lib.ListN.{length}
 use lib.Dec.{eqb}
-use Rattle.terms.specs.Refuse.{refuse}
+use Rattle.terms.specs.Refusal.{refuse}
 
 -- what every call that takes a dump checks of it
 -- 1: the dump hasn't 88 words

@@ -2,8 +2,8 @@
 use mathlib.Core.Path.{_≡_, refl}
 use mathlib.Core.List.{List}
 use Prim.Native.Nat.{ℕ}
-use Rattle.terms.specs.Refuse.{outcomeOf}
-use Rattle.terms.specs.Refuse.{numberOf as numberOut}
+use Rattle.terms.specs.Refusal.{outcomeOf}
+use Rattle.terms.specs.Refusal.{numberOf as numberOut}
 use Rattle.terms.specs.Says.{Says}
 use Rattle.terms.proofs.Says.{Paper, says, outcome-says}
 use Rattle.efuse.specs.declared.field.EfuseField.{EfuseField}

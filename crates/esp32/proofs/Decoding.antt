@@ -8,14 +8,14 @@ use Rattle.terms.proofs.Refusals.{orElse-none, orElse-some, byNumber-good, byNu
 use Rattle.maps.specs.Input.{fieldsRefusal, decodingRefusal}
 use Rattle.maps.specs.Value.{valueById}
 use Rattle.maps.proofs.Inputs.{decoding-good}
-use Rattle.line.specs.declared.record.LineRecord.{LineRecord}
+use Rattle.line_record.specs.declared.record.LineRecord.{LineRecord}
 use Rattle.esp32.specs.declared.characterize.Source.{Source}
 use Rattle.esp32.specs.declared.decode.Decoded.the-variants.{Record, Refused}
-use Rattle.line.specs.Record.{recordRefusal}
+use Rattle.line_record.specs.Record.{recordRefusal}
 use Rattle.esp32.specs.Code.{vrefOf}
 use Rattle.esp32.specs.Characterize.{sourceRefusal}
 use Rattle.esp32.specs.Decode.{sourceOf, foundOf, decodedRecord, decodeRefusal, decodeOf}
-use Rattle.line.proofs.Records.{record-good}
+use Rattle.line_record.proofs.Records.{record-good}
 use Rattle.esp32.proofs.Codes.{vref-range}
 use Rattle.esp32.proofs.Coefficients.{line-ranges}
 use Rattle.esp32.proofs.Sources.{vref-fits}

@@ -4,7 +4,7 @@
 use mathlib.Core.List.{List, [], _∷_}
 use Prim.Native.Nat.{ℕ, _+_, _*_, _-_, _/_}
 use lib.Dec.{ltb}
-use Rattle.terms.specs.Refuse.{refuse}
+use Rattle.terms.specs.Refusal.{refuse}
 use Rattle.terms.specs.Unit.{entryOf}
 use Rattle.vref.specs.declared.coefficients.Coefficients.{Coefficients}
 use Rattle.vref.specs.Coefficients.{vrefLine}

@@ -7,17 +7,17 @@ use mathlib.Core.List.{List}
 use Prim.Native.Nat.{ℕ}
 use lib.Dec.{eqb}
 use Rattle.terms.specs.declared.chip.MapChip.the-variants.{Esp32}
-use Rattle.terms.specs.Refuse.{orElse, answered}
+use Rattle.terms.specs.Refusal.{orElse, answered}
 use Rattle.terms.specs.Unit.{byUnit}
 use Rattle.maps.specs.Input.{decodingRefusal}
 use Rattle.maps.specs.Value.{valueById}
-use Rattle.line.specs.declared.record.LineRecord.{LineRecord}
+use Rattle.line_record.specs.declared.record.LineRecord.{LineRecord}
 use Rattle.esp32.specs.declared.characterize.Source.{Source}
 use Rattle.esp32.specs.declared.characterize.Source.the-variants.{TwoPoint, Vref}
 use Rattle.esp32.specs.declared.decode.Found.{Found}
 use Rattle.esp32.specs.declared.decode.Decoded.{Decoded}
 use Rattle.esp32.specs.declared.decode.Decoded.the-variants.{Record, Refused}
-use Rattle.line.specs.Record.{recordOf}
+use Rattle.line_record.specs.Record.{recordOf}
 use Rattle.esp32.specs.Code.{vrefOf}
 use Rattle.esp32.specs.Characterize.{coefficientsOf, sourceRefusal}
 

@@ -2,8 +2,8 @@
 use crate::characterize;
 use crate::characterize::Source;
 use crate::code;
-use line::record;
-use line::record::LineRecord;
+use line_record::record;
+use line_record::record::LineRecord;
 use maps::input::decoding_refusal;
 use maps::value::record_value;
 use terms::chip::MapChip;

@@ -3,7 +3,7 @@ use mathlib.Core.List.{List}
 use Prim.Native.Nat.{ℕ, _+_, min}
 use lib.IntN.{pos, natAbs}
 use Rattle.terms.specs.declared.chip.MapChip.the-variants.{C6}
-use Rattle.terms.specs.Refuse.{unitRefusal}
+use Rattle.terms.specs.Refusal.{unitRefusal}
 use Rattle.terms.specs.Says.{Says}
 use Rattle.terms.specs.Code as code
 use Rattle.terms.specs.Reading as reading

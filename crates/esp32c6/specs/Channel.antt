@@ -4,7 +4,7 @@ use mathlib.Core.List.{List}
 use Prim.Native.Nat.{ℕ, _+_, _-_, min}
 use lib.IntN.{ℤ, pos, _*ℤ_}
 use Rattle.terms.specs.declared.chip.MapChip.the-variants.{C6}
-use Rattle.terms.specs.Refuse.{answered}
+use Rattle.terms.specs.Refusal.{answered}
 use Rattle.terms.specs.Sign.{signMagnitude}
 use Rattle.maps.specs.Input.{decodingRefusal}
 use Rattle.maps.specs.Value.{valueById}

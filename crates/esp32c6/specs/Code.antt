@@ -7,7 +7,7 @@ use Prim.Native.Nat.{ℕ, _+_}
 use lib.Dec.{eqb}
 use lib.IntN.{ℤ, pos, natAbs, _+ℤ_}
 use Rattle.terms.specs.declared.chip.MapChip.the-variants.{C6}
-use Rattle.terms.specs.Refuse.{refuse, orElse, answered}
+use Rattle.terms.specs.Refusal.{refuse, orElse, answered}
 use Rattle.terms.specs.Sign.{signMagnitude}
 use Rattle.maps.specs.Input.{decodingRefusal}
 use Rattle.maps.specs.Value.{valueById}

@@ -6,7 +6,7 @@ use Prim.Native.Nat.{ℕ}
 use lib.ListN.{getD}
 use lib.Dec.{eqb}
 use Rattle.terms.specs.declared.quantity.Millivolt.{Millivolt}
-use Rattle.terms.specs.Refuse.{unitRefusal, answered}
+use Rattle.terms.specs.Refusal.{unitRefusal, answered}
 use Rattle.terms.specs.declared.voltage.Voltage.{Voltage}
 use Rattle.terms.specs.declared.voltage.Voltage.the-variants.{Value, Refused}
 use Rattle.terms.specs.C6Version.{versionOf}

@@ -6,7 +6,7 @@ use Prim.Native.Nat.{ℕ}
 use lib.Dec.{eqb}
 use lib.IntN.{natAbs}
 use Rattle.terms.specs.declared.chip.MapChip.the-variants.{S2}
-use Rattle.terms.specs.Refuse.{refuse, orElse, answered}
+use Rattle.terms.specs.Refusal.{refuse, orElse, answered}
 use Rattle.maps.specs.Input.{decodingRefusal}
 use Rattle.terms.specs.declared.code.Code.{Code}
 use Rattle.terms.specs.declared.code.Code.the-variants.{Value, Refused}

@@ -3,7 +3,7 @@ use mathlib.Core.List.{[], _∷_}
 use Prim.Native.Nat.{ℕ}
 use lib.ListN.{getD}
 use Rattle.terms.specs.declared.quantity.Millivolt.{Millivolt}
-use Rattle.terms.specs.Refuse.{unitRefusal, answered}
+use Rattle.terms.specs.Refusal.{unitRefusal, answered}
 use Rattle.terms.specs.declared.voltage.Voltage.{Voltage}
 use Rattle.terms.specs.declared.voltage.Voltage.the-variants.{Value, Refused}
 

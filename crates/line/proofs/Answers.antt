@@ -8,11 +8,11 @@ use borrow.Author.Tests.{lt-leb, le-leb, leb-true}
 use Rattle.terms.proofs.Order.{either, whether}
 use Rattle.terms.proofs.Refusals.{and-true, and-false}
 use Rattle.lut.proofs.Sums.{voltage-is, sum-most}
-use Rattle.line.specs.declared.record.LineRecord.{LineRecord}
-use Rattle.line.specs.Record.{usesLookup}
+use Rattle.line_record.specs.declared.record.LineRecord.{LineRecord}
+use Rattle.line_record.specs.Record.{usesLookup}
 use Rattle.line.specs.Lookup.{lookupVoltage}
 use Rattle.line.specs.Convert.{lineVoltage, blendOf, meanOf, beyondLine, answerAt}
-use Rattle.line.specs.When.{InRanges}
+use Rattle.line_record.specs.When.{InRanges}
 
 -- the blend is a mean of its two ends, and so within what they are
 module _ (y1 y2 x : ℕ) (h : x ≤ 64) where

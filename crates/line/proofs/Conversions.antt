@@ -7,7 +7,7 @@ use Rattle.terms.specs.declared.voltage.Voltage.the-variants.{Value, Refused}
 use Rattle.terms.specs.Voltage.{valueOf}
 use Rattle.terms.proofs.Order.{zero-or}
 use Rattle.terms.proofs.Refusals.{byNumber-good, byNumber-refused}
-use Rattle.line.specs.declared.record.LineRecord.{LineRecord}
+use Rattle.line_record.specs.declared.record.LineRecord.{LineRecord}
 use Rattle.line.specs.Convert.{answerAt, convertRefusal, convertOf}
 use Rattle.line.proofs.Answers.{answer-most}
 use Rattle.line.proofs.Exactly.{convert-good}

@@ -2,7 +2,6 @@ pub mod Answers
 pub mod Conversions
 pub mod Exactly
 pub mod Lookups
-pub mod Records
 pub mod Rising
 pub mod Says
 pub mod Unique

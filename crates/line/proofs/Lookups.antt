@@ -7,10 +7,10 @@ use borrow.Author.Tests.{eqb-true, ne-eqb, leb-true, le-leb, lt-leb}
 use Rattle.terms.proofs.Refusals.{and-true}
 use Rattle.lut.specs.Point.{pointAt}
 use Rattle.lut.proofs.Sums.{Around, around}
-use Rattle.line.specs.declared.record.LineRecord.{LineRecord}
-use Rattle.line.specs.Record.{recordRefusal}
+use Rattle.line_record.specs.declared.record.LineRecord.{LineRecord}
+use Rattle.line_record.specs.Record.{recordRefusal}
 use Rattle.line.specs.Lookup.{hasLookup, slopeFrom, lutSlope}
-use Rattle.line.proofs.Records.{record-sound}
+use Rattle.line_record.proofs.Records.{record-sound}
 
 module _ (r : LineRecord) (raw : ℕ) where
   -- which case it is

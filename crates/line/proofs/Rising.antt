@@ -6,11 +6,11 @@ use Prim.Native.Nat.{ℕ, zero, suc, _+_, _-_, _/_, _≤_, min, max}
 use native.Mathlib.Nat.{mul-le-mul-left, le-refl, le-trans, add-zero, add-sub-of-le, min-le-left, min-le-right, le-max-left, le-max-right}
 use native.Mathlib.Omega.{arith}
 use Rattle.lut.proofs.Sums.{voltage-is, sum-along}
-use Rattle.line.specs.declared.record.LineRecord.{LineRecord}
-use Rattle.line.specs.Record.{usesLookup}
+use Rattle.line_record.specs.declared.record.LineRecord.{LineRecord}
+use Rattle.line_record.specs.Record.{usesLookup}
 use Rattle.line.specs.Lookup.{lookupVoltage}
 use Rattle.line.specs.Convert.{lineVoltage, answerAt}
-use Rattle.line.specs.When.{InRanges}
+use Rattle.line_record.specs.When.{InRanges}
 use Rattle.line.proofs.Answers.{beyond-plain, answer-line, answer-blend, answer-upper, blend-first, blend-within}
 
 line-rises : (r : LineRecord) {c d : ℕ} → c ≤ d → lineVoltage r c ≤ lineVoltage r d

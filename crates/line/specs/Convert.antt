@@ -6,9 +6,9 @@ use Prim.Native.Nat.{ℕ, _+_, _*_, _-_, _/_}
 use lib.Dec.{leb}
 use Rattle.terms.specs.declared.voltage.Voltage.{Voltage}
 use Rattle.terms.specs.declared.voltage.Voltage.the-variants.{Value, Refused}
-use Rattle.terms.specs.Refuse.{orElse, answered, rawRefusal}
-use Rattle.line.specs.declared.record.LineRecord.{LineRecord}
-use Rattle.line.specs.Record.{usesLookup, recordRefusal}
+use Rattle.terms.specs.Refusal.{orElse, answered, rawRefusal}
+use Rattle.line_record.specs.declared.record.LineRecord.{LineRecord}
+use Rattle.line_record.specs.Record.{usesLookup, recordRefusal}
 use Rattle.line.specs.Lookup.{lookupVoltage}
 
 -- the line's numerator at a count, before 32768 is added

@@ -1,4 +1,3 @@
 pub mod Convert
 pub mod Lookup
-pub mod Record
 pub mod When

@@ -2,17 +2,12 @@
 use mathlib.Core.Bool.{Bool, cond, _&&_}
 use Prim.Native.Nat.{ℕ, _+_, _-_}
 use lib.Dec.{leb, eqb}
-use lib.IntN.{ℤ}
-use Rattle.lut.specs.Lookup.{numeratorAt, sumAt, voltageAt}
-use Rattle.line.specs.declared.record.LineRecord.{LineRecord}
+use Rattle.lut.specs.Lookup.{sumAt, voltageAt}
+use Rattle.line_record.specs.declared.record.LineRecord.{LineRecord}
 use Rattle.line.specs.declared.lookup.Slope.{Slope}
-use Rattle.line.specs.Record.{recordRefusal}
+use Rattle.line_record.specs.Record.{recordRefusal}
 
--- its numerator at a count, before 6400 is added
-abbrev pub lookupNumerator : LineRecord → ℕ → ℤ
-lookupNumerator r raw = numeratorAt (r .unit) (r .vref) raw
-
--- the same with 6400 added: 12800 times its millivolts, rounding included
+-- its sum at a count: 12800 times its millivolts, rounding included
 abbrev pub lookupSum : LineRecord → ℕ → ℕ
 lookupSum r raw = sumAt (r .unit) (r .vref) raw
 

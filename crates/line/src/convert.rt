@@ -1,9 +1,9 @@
 // Converting a count to millivolts. In the crate: `adc_val`.
 use crate::lookup::LUT_LOW_THRESH;
 use crate::lookup::calculate_voltage_lut;
-use crate::record::LineRecord;
-use crate::record::record_refusal;
-use crate::record::uses_lookup;
+use line_record::record::LineRecord;
+use line_record::record::record_refusal;
+use line_record::record::uses_lookup;
 use terms::quantity::Count;
 use terms::quantity::Millivolt;
 use terms::refusal;
@@ -12,7 +12,7 @@ use terms::voltage::Voltage;
 ghost use mathlib.Core.Path.{_≡_};
 ghost use mathlib.Core.Bool.{true};
 ghost use Prim.Native.Nat.{_≤_};
-ghost use Rattle.line.specs.Record.{recordRefusal};
+ghost use Rattle.line_record.specs.Record.{recordRefusal};
 ghost use Rattle.line.specs.Convert.{lineVoltage, meanOf, beyondLine, answerAt, convertRefusal, convertOf};
 
 pub const COEFF_A_SCALE: u32 = 65536;
@@ -21,7 +21,7 @@ pub const COEFF_A_ROUND: u32 = 32768;
 
 pub const LUT_HIGH_THRESH: u32 = 2944;
 
-const BLEND: u32 = LUT_HIGH_THRESH - LUT_LOW_THRESH;
+pub const BLEND: u32 = LUT_HIGH_THRESH - LUT_LOW_THRESH;
 
 // The line's millivolts at a count.
 fn calculate_voltage_linear(cal: LineRecord, raw: u32) -> u32

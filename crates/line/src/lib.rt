@@ -1,4 +1,3 @@
-// Line calibration: the line record, and what it converts a count to.
+// Line calibration: what a line record converts a count to.
 pub mod convert;
 pub mod lookup;
-pub mod record;

@@ -1,12 +1,12 @@
 // The lookup: voltages from count 2880 on, between points that stand 64 counts apart. In the crate: `calculate_voltage_lut`.
-use crate::record::LineRecord;
-use crate::record::record_refusal;
+use line_record::record::LineRecord;
+use line_record::record::record_refusal;
 use lut::row::lut_row;
 use terms::refusal;
 ghost use mathlib.Core.Path.{_≡_};
 ghost use Prim.Native.Nat.{_+_, _*_, _-_, _/_, _%_, _≤_};
 ghost use Rattle.lut.specs.Point.{pointAt};
-ghost use Rattle.line.specs.Record.{recordRefusal};
+ghost use Rattle.line_record.specs.Record.{recordRefusal};
 ghost use Rattle.line.specs.Lookup.{hasLookup, lookupVoltage, slopeFrom, lutSlope};
 
 pub const LUT_LOW_THRESH: u32 = 2880;
@@ -67,6 +67,7 @@ pub(crate) fn calculate_voltage_lut(cal: LineRecord, raw: u32) -> u32
     lut_sum(here, there, raw) / LUT_SCALE
 }
 
+// The lookup's slope from one of its counts.
 fn step_slope(cal: LineRecord, raw: u32) -> Slope
     requires { ⌜ (recordRefusal cal ≡ 0) × (2880 ≤ raw) × (raw ≤ 4095) ⌝ }
     ensures { λ r. ⌜ r ≡ slopeFrom cal raw ⌝ }

@@ -1,7 +1,7 @@
 // data/convert: counts, and their millivolts by line records.
 use line::convert;
-use line::record;
-use line::record::LineRecord;
+use line_record::record;
+use line_record::record::LineRecord;
 use replay::answer;
 use replay::answer::Answer;
 use replay::bytes;

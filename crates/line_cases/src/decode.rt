@@ -1,7 +1,7 @@
 // data/decode: dumps with their maps, and the line records that are decoded of them.
 use esp32::decode;
 use esp32::decode::Decoded;
-use line::record::LineRecord;
+use line_record::record::LineRecord;
 use replay::bytes;
 use terms::refusal;
 

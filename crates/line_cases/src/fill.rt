@@ -1,6 +1,6 @@
 // data/fill: whole tables. data/stretches: stretches of them, with the sum of what is written.
 use crate::convert::record_of;
-use line::record::LineRecord;
+use line_record::record::LineRecord;
 use replay::answer;
 use replay::bytes;
 use stretch::fill;

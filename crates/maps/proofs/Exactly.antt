@@ -10,7 +10,7 @@ use lib.Dec.{eqb}
 use borrow.Author.Tests.{eq-eqb, lt-ltb, le-ltb, eqb-true, not-false}
 use Rattle.terms.specs.declared.chip.MapChip.{MapChip}
 use Rattle.terms.specs.Exactly.{Exactly}
-use Rattle.terms.specs.Refuse.{firstOf}
+use Rattle.terms.specs.Refusal.{firstOf}
 use Rattle.terms.specs.When.{FirstWhen}
 use Rattle.terms.proofs.Exactly.{Some, exactly, case, by-first, unit-exactly, first-exactly}
 use Rattle.terms.proofs.Order.{either, equal-or}

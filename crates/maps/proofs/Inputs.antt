@@ -4,7 +4,7 @@ use mathlib.Core.List.{List}
 use Prim.Native.Nat.{ℕ, _≤_}
 use lib.ListN.{length}
 use Rattle.terms.specs.declared.chip.MapChip.{MapChip}
-use Rattle.terms.specs.Refuse.{unitRefusal}
+use Rattle.terms.specs.Refusal.{unitRefusal}
 use Rattle.terms.proofs.Refusals.{orElse-none, unit-inside}
 use Rattle.dumps.specs.Dump.{dumpRefusal}
 use Rattle.dumps.proofs.Dumps.{dump-whole}

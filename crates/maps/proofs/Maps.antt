@@ -10,7 +10,7 @@ use lib.Dec.{ltb, eqb, lit≤}
 use borrow.Author.Tests.{ltb-false, eq-eqb, ne-eqb}
 use Rattle.terms.specs.declared.chip.MapChip.{MapChip}
 use Rattle.terms.specs.declared.chip.MapChip.the-variants.{Esp32, S2, C6}
-use Rattle.terms.specs.Refuse.{firstOf}
+use Rattle.terms.specs.Refusal.{firstOf}
 use Rattle.terms.proofs.Refusals.{refuse-none, or-none, orElse-none, orElse-some, first-each}
 use Rattle.efuse.specs.declared.field.EfuseField.{EfuseField}
 use Rattle.maps.specs.declared.map.Ids.{Ids}

@@ -3,7 +3,7 @@ use mathlib.Core.Path.{_≡_}
 use mathlib.Core.List.{List}
 use Prim.Native.Nat.{ℕ}
 use Rattle.terms.specs.declared.chip.MapChip.{MapChip}
-use Rattle.terms.specs.Refuse.{outcomeOf, numberOf}
+use Rattle.terms.specs.Refusal.{outcomeOf, numberOf}
 use Rattle.terms.proofs.Says.{outcome-says}
 use Rattle.maps.specs.Map.{mapRefusal}
 

@@ -3,7 +3,7 @@
 use mathlib.Core.List.{List}
 use Prim.Native.Nat.{ℕ}
 use Rattle.terms.specs.declared.chip.MapChip.{MapChip}
-use Rattle.terms.specs.Refuse.{orElse, unitRefusal}
+use Rattle.terms.specs.Refusal.{orElse, unitRefusal}
 use Rattle.dumps.specs.Dump.{dumpRefusal}
 use Rattle.maps.specs.Map.{mapRefusal}
 

@@ -7,7 +7,7 @@ use lib.ListN.{length, getD}
 use lib.Dec.{ltb, eqb}
 use Rattle.terms.specs.declared.chip.MapChip.{MapChip}
 use Rattle.terms.specs.declared.chip.MapChip.the-variants.{Esp32, S2, C6}
-use Rattle.terms.specs.Refuse.{refuse, orElse, firstOf}
+use Rattle.terms.specs.Refusal.{refuse, orElse, firstOf}
 use Rattle.efuse.specs.declared.field.EfuseField.{EfuseField}
 use Rattle.efuse.specs.Field.{placeRefusal}
 use Rattle.maps.specs.declared.map.Ids.{Ids}

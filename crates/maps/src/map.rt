@@ -8,7 +8,7 @@ use terms::refusal::Outcome;
 ghost use mathlib.Core.Path.{_≡_};
 ghost use Prim.Native.Nat.{_+_, _*_, _≤_, _<_};
 ghost use lib.ListN.{getD};
-ghost use Rattle.terms.specs.Refuse.{outcomeOf, firstOf};
+ghost use Rattle.terms.specs.Refusal.{outcomeOf, firstOf};
 ghost use Rattle.dumps.specs.Dump.{eight};
 ghost use Rattle.maps.specs.Map.{idsOf, recordByte, fieldOf, strayOf, exactly, bitCounts, countRefusal, mapRecordRefusal, mapRecordRefusals, mapRefusal};
 

@@ -1,7 +1,7 @@
 -- Document 01's marked cases hold: what is asked computes to what it says, all in one. Assumes nothing.
 use mathlib.Core.Path.{_≡_, refl}
 use mathlib.Core.List.{map, flatten}
-use Rattle.terms.specs.Refuse.{firstOf, unitRefusal, rawRefusal}
+use Rattle.terms.specs.Refusal.{firstOf, unitRefusal, rawRefusal}
 use Rattle.terms.specs.Sign.{signMagnitude}
 use Rattle.dumps.specs.Dump.{dumpRefusal}
 use Rattle.efuse.specs.Field.{bitsOf, placeRefusal, fieldBits}
@@ -12,7 +12,7 @@ use Rattle.vref.specs.Coefficients.{vrefScale, vrefOffset}
 use Rattle.esp32.specs.Code.{vrefOf, twoPointCode, pointOf, lowOf, highOf}
 use Rattle.esp32.specs.Characterize.{tpScale, tpOffset, twoPointA, topOf, twoPointB, topRefusal, coefficientsOf, sourceRefusal}
 use Rattle.esp32.specs.Decode.{twoPointUsed, sourceOf, foundOf, decodedRecord, decodeRefusal, decodeOf}
-use Rattle.line.specs.Record.{usesLookup, recordRefusal}
+use Rattle.line_record.specs.Record.{usesLookup, recordRefusal}
 use Rattle.lut.specs.Row.{lowAt, highAt}
 use Rattle.lut.specs.Lookup.{numeratorAt, voltageAt}
 use Rattle.line.specs.Convert.{lineVoltage, blendOf, beyondLine, answerAt, convertRefusal, convertOf}

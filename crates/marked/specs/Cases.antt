@@ -9,7 +9,7 @@ use Rattle.terms.specs.Code.{valueOf as codeValue}
 use Rattle.terms.specs.Reading.{valueOf as readingValue}
 use Rattle.terms.specs.Voltage.{valueOf as voltageOf}
 use Rattle.dumps.specs.Dump.{eight}
-use Rattle.line.specs.declared.record.LineRecord.{LineRecord}
+use Rattle.line_record.specs.declared.record.LineRecord.{LineRecord}
 use Rattle.esp32.specs.Code.{vrefOf, twoPointCode, lowOf, highOf}
 use Rattle.esp32.specs.Characterize.{topOf}
 use Rattle.esp32.specs.Decode.{decodeOf}

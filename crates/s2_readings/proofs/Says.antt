@@ -4,7 +4,7 @@ use mathlib.Core.List.{List, []}
 use Prim.Native.Nat.{ℕ}
 use lib.IntN.{pos}
 use Rattle.terms.specs.Reading as reading
-use Rattle.terms.specs.Refuse.{unitRefusal}
+use Rattle.terms.specs.Refusal.{unitRefusal}
 use Rattle.terms.specs.Says.{Says}
 use Rattle.terms.proofs.Says.{reading-says as reading-given}
 use Rattle.s2_readings.specs.declared.tag.RtcCalibParam.{RtcCalibParam}

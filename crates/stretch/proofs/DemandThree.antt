@@ -6,14 +6,15 @@ use Rattle.terms.specs.declared.voltage.Voltage.{Voltage as Answer}
 use Rattle.terms.specs.declared.voltage.Voltage.the-variants.{Value as Voltage}
 use Rattle.terms.specs.Voltage.{valueOf}
 use Rattle.terms.specs.When.{good-raw}
-use Rattle.line.specs.declared.record.LineRecord.{LineRecord}
-use Rattle.line.specs.Record.{recordRefusal}
+use Rattle.line_record.specs.declared.record.LineRecord.{LineRecord}
+use Rattle.line_record.specs.Record.{recordRefusal}
 use Rattle.line.specs.Convert.{answerAt, convertOf}
 use Rattle.stretch.specs.DemandThree.{millivolts, DemandThree}
-use Rattle.line.specs.When.{good-record, convert-raw}
+use Rattle.line_record.specs.When.{good-record}
+use Rattle.line.specs.When.{convert-raw}
 use Rattle.line.proofs.Conversions.{convert-voltage}
 use Rattle.line.proofs.Exactly.{convert-exactly}
-use Rattle.line.proofs.Records.{record-sound}
+use Rattle.line_record.proofs.Records.{record-sound}
 use Rattle.line.proofs.Rising.{lookup-rises, blend-between, blend-starts, blend-ends, plain-rises}
 use Rattle.stretch.proofs.Stretches.{covered-below, walked-length, walked-at}
 

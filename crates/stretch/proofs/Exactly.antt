@@ -5,9 +5,9 @@ use borrow.Author.Tests.{lt-ltb, le-ltb}
 use Rattle.terms.specs.Exactly.{Exactly}
 use Rattle.terms.proofs.Exactly.{Some, exactly, case}
 use Rattle.terms.proofs.Order.{either}
-use Rattle.line.specs.declared.record.LineRecord.{LineRecord}
-use Rattle.line.specs.When.{InRanges, RecordWhen, bad-record, good-record}
-use Rattle.line.proofs.Exactly.{record-exactly, ranges}
+use Rattle.line_record.specs.declared.record.LineRecord.{LineRecord}
+use Rattle.line_record.specs.When.{InRanges, RecordWhen, bad-record, good-record}
+use Rattle.line_record.proofs.Exactly.{record-exactly, ranges}
 use Rattle.stretch.specs.Fill.{fillRefusal}
 use Rattle.stretch.specs.When.{FillWhen, fill-record, bad-stretch, good-stretch}
 

@@ -4,9 +4,9 @@ use mathlib.Core.List.{List}
 use Prim.Native.Nat.{ℕ}
 use lib.ListN.{length}
 use Rattle.terms.specs.declared.refusal.Outcome.the-variants.{Good, Refused}
-use Rattle.terms.specs.Refuse.{outcomeOf}
+use Rattle.terms.specs.Refusal.{outcomeOf}
 use Rattle.terms.proofs.Refusals.{byNumber-good, byNumber-refused}
-use Rattle.line.specs.declared.record.LineRecord.{LineRecord}
+use Rattle.line_record.specs.declared.record.LineRecord.{LineRecord}
 use Rattle.stretch.specs.Fill.{fillRefusal, answersFrom, filled}
 
 -- which case a fill is, as a `return` asks it

@@ -8,16 +8,16 @@ use borrow.Author.Tests.{lt-ltb, le-ltb, le-leb}
 use Rattle.terms.specs.Table.{tab}
 use Rattle.terms.proofs.Order.{either, whether}
 use Rattle.terms.proofs.Tab.{tab-same}
-use Rattle.line.specs.declared.record.LineRecord.{LineRecord}
+use Rattle.line_record.specs.declared.record.LineRecord.{LineRecord}
 use Rattle.line.specs.declared.lookup.Slope.{Slope}
-use Rattle.line.specs.Record.{usesLookup, recordRefusal}
+use Rattle.line_record.specs.Record.{usesLookup, recordRefusal}
 use Rattle.line.specs.Lookup.{lookupSum, lookupVoltage, lutSlope}
 use Rattle.line.specs.Convert.{lineVoltage, blendOf, beyondLine}
 use Rattle.stretch.specs.Fill.{answersFrom}
-use Rattle.stretch.specs.Walk.{along, lineSlope, InStep, segmentLeft}
+use Rattle.stretch.specs.Private.{along, lineSlope, InStep, segmentLeft}
 use Rattle.lut.proofs.Sums.{voltage-is, sum-most, sum-along}
 use Rattle.line.proofs.Answers.{beyond-yes, beyond-plain, beyond-below, answer-line, answer-blend, answer-upper, line-sum-most}
-use Rattle.line.proofs.Records.{record-sound}
+use Rattle.line_record.proofs.Records.{record-sound}
 use Rattle.line.proofs.Lookups.{has-from, slope-some}
 
 -- how far a segment goes

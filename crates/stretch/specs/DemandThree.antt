@@ -6,8 +6,8 @@ use Prim.Native.Nat.{ℕ, _≤_, min, max}
 use lib.ListN.{length, getD}
 use Rattle.terms.specs.declared.voltage.Voltage.the-variants.{Value as Voltage}
 use Rattle.terms.specs.Voltage.{valueOf}
-use Rattle.line.specs.declared.record.LineRecord.{LineRecord}
-use Rattle.line.specs.Record.{usesLookup}
+use Rattle.line_record.specs.declared.record.LineRecord.{LineRecord}
+use Rattle.line_record.specs.Record.{usesLookup}
 use Rattle.line.specs.Lookup.{lookupVoltage}
 use Rattle.line.specs.Convert.{lineVoltage, convertOf}
 use Rattle.stretch.specs.Stretches.{Stretch, walked, covered}

@@ -4,10 +4,10 @@ use mathlib.Core.List.{List}
 use Prim.Native.Nat.{ℕ, _+_}
 use lib.ListN.{length}
 use lib.Dec.{ltb}
-use Rattle.terms.specs.Refuse.{refuse, orElse, byNumber}
+use Rattle.terms.specs.Refusal.{refuse, orElse, byNumber}
 use Rattle.terms.specs.Table.{tab}
-use Rattle.line.specs.declared.record.LineRecord.{LineRecord}
-use Rattle.line.specs.Record.{recordRefusal}
+use Rattle.line_record.specs.declared.record.LineRecord.{LineRecord}
+use Rattle.line_record.specs.Record.{recordRefusal}
 use Rattle.line.specs.Convert.{answerAt}
 
 -- 10: line record outside its ranges

@@ -1,5 +1,5 @@
 pub mod DemandThree
 pub mod Fill
+pub mod Private
 pub mod Stretches
-pub mod Walk
 pub mod When

@@ -1,8 +1,8 @@
 -- Document 01, "Numbers given when a call is turned down": when filling gives each number.
 -- A case says too that nothing before it in the call's order is given; 0 is given where the call isn't turned down.
 use Prim.Native.Nat.{ℕ, _+_, _≤_, _<_}
-use Rattle.line.specs.declared.record.LineRecord.{LineRecord}
-use Rattle.line.specs.When.{RecordWhen}
+use Rattle.line_record.specs.declared.record.LineRecord.{LineRecord}
+use Rattle.line_record.specs.When.{RecordWhen}
 
 -- "Filling: 10, then 11"
 -- 11: "a stretch whose first count plus length is above 4096"

@@ -12,9 +12,9 @@ use line::lookup::LUT_LOW_THRESH;
 use line::lookup::LUT_SCALE;
 use line::lookup::Slope;
 use line::lookup::lut_slope;
-use line::record::LineRecord;
-use line::record::record_refusal;
-use line::record::uses_lookup;
+use line_record::record::LineRecord;
+use line_record::record::record_refusal;
+use line_record::record::uses_lookup;
 use terms::quantity::Count;
 use terms::refusal;
 use terms::refusal::Outcome;
@@ -23,12 +23,12 @@ ghost use mathlib.Core.Path.{_≡_};
 ghost use mathlib.Core.Bool.{true};
 ghost use Prim.Native.Nat.{_+_, _≤_, min};
 ghost use lib.ListN.{length};
-ghost use Rattle.terms.specs.Refuse.{outcomeOf};
+ghost use Rattle.terms.specs.Refusal.{outcomeOf};
 ghost use Rattle.terms.specs.Table.{tab};
-ghost use Rattle.line.specs.Record.{usesLookup, recordRefusal};
+ghost use Rattle.line_record.specs.Record.{usesLookup, recordRefusal};
 ghost use Rattle.line.specs.Convert.{lineVoltage};
 ghost use Rattle.stretch.specs.Fill.{fillRefusal, answersFrom, filled};
-ghost use Rattle.stretch.specs.Walk.{lineSlope, InStep, segmentLeft};
+ghost use Rattle.stretch.specs.Private.{lineSlope, InStep, segmentLeft};
 
 const COUNTS: u32 = 4096;
 

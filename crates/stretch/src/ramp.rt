@@ -2,10 +2,9 @@
 // What moves by additions is the sum. What is taken anew at each count is its quotient by a constant, 65536 or 12800, which the compiler
 // makes a shift or a multiplication. A quotient that moved by additions too would need its remainder beside it, and a test at each count
 // whether that ran over; each count would wait for the one before it, and the loop couldn't do several counts at once, as this one does.
+use line::convert::BLEND;
 use line::convert::COEFF_A_SCALE;
-use line::convert::LUT_HIGH_THRESH;
 use line::convert::interpolate_two_points;
-use line::lookup::LUT_LOW_THRESH;
 use line::lookup::LUT_SCALE;
 use line::lookup::Slope;
 ghost use mathlib.Core.Path.{_≡_};
@@ -13,9 +12,7 @@ ghost use Prim.Native.Nat.{_+_, _*_, _/_, _≤_, _<_};
 ghost use lib.ListN.{length};
 ghost use Rattle.terms.specs.Table.{tab};
 ghost use Rattle.line.specs.Convert.{blendOf};
-ghost use Rattle.stretch.specs.Walk.{along, Blended};
-
-const BLEND: u32 = LUT_HIGH_THRESH - LUT_LOW_THRESH;
+ghost use Rattle.stretch.specs.Private.{along, Blended};
 
 // Writes the quotients from the slope's count on.
 pub(crate) fn ramp(slope: Slope, divisor: u32, out: &mut [u16])

@@ -6,7 +6,7 @@ use native.Mathlib.Numerals.{add-one}
 use native.Mathlib.Omega.{arith}
 use borrow.Author.Count.{below-more}
 use Rattle.terms.specs.Exactly.{Exactly}
-use Rattle.terms.specs.Refuse.{firstOf, unitRefusal, rawRefusal}
+use Rattle.terms.specs.Refusal.{firstOf, unitRefusal, rawRefusal}
 use Rattle.terms.specs.When.{UnitWhen, bad-unit, good-unit, RawWhen, bad-raw, good-raw, FirstWhen, fault, no-fault}
 use Rattle.terms.proofs.Order.{either, zero-or}
 use Rattle.terms.proofs.Refusals.{unit-good, unit-above, raw-good, raw-above, Passed, first-start, first-pass, first-stop, first-none}

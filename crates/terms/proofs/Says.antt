@@ -11,7 +11,7 @@ use Rattle.terms.specs.declared.voltage.Voltage.the-variants.{Value as V
 use Rattle.terms.specs.Code as code
 use Rattle.terms.specs.Reading as reading
 use Rattle.terms.specs.Voltage as voltage
-use Rattle.terms.specs.Refuse.{answered, outcomeOf, numberOf}
+use Rattle.terms.specs.Refusal.{answered, outcomeOf, numberOf}
 use Rattle.terms.specs.Says.{Says}
 
 -- an enum's case with values and its refusal, beside their number and value in document 01

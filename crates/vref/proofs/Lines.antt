@@ -3,7 +3,7 @@ use mathlib.Core.Path.{_≡_, refl, sym, _∙_, ap}
 use Prim.Native.Nat.{ℕ, _+_, _*_, _/_, _≤_}
 use native.Mathlib.Nat.{div-le-of-le-mul, mul-le-mul}
 use native.Mathlib.Omega.{arith}
-use Rattle.terms.specs.Refuse.{unitRefusal}
+use Rattle.terms.specs.Refusal.{unitRefusal}
 use Rattle.terms.proofs.Refusals.{byNumber-good, byNumber-refused, unit-good}
 use Rattle.terms.proofs.Units.{unit-most, entry-at}
 use Rattle.vref.specs.declared.coefficients.Atten.{Atten}

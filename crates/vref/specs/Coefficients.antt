@@ -2,7 +2,7 @@
 -- ESP-IDF's components/esp_adc/esp32/adc_cali_line_fitting.c, line 155.
 use mathlib.Core.List.{List, [], _∷_}
 use Prim.Native.Nat.{ℕ, _*_, _/_}
-use Rattle.terms.specs.Refuse.{byNumber, unitRefusal}
+use Rattle.terms.specs.Refusal.{byNumber, unitRefusal}
 use Rattle.terms.specs.Unit.{entryOf}
 use Rattle.vref.specs.declared.coefficients.Coefficients.{Coefficients}
 

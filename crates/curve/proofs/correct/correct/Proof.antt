@@ -2,7 +2,7 @@
 -- Assumes nothing.
 use mathlib.Core.Path.{_≡_, sym, _∙_}
 use borrow.Author.Needs.{needs}
-use Rattle.terms.specs.Refuse.{unitRefusal}
+use Rattle.terms.specs.Refusal.{unitRefusal}
 use Rattle.curve.proofs.Corrections.{correct-unit, correct-none, correct-above, correct-good}
 use Rattle.curve.proofs.correct.correct.Statement.{statement}
 use Rattle.curve.proofs.correct.correct.Tie as tie

@@ -3,7 +3,7 @@ use mathlib.Core.Path.{sym, _∙_}
 use borrow.Author.Needs.{needs}
 use Rattle.line.proofs.Answers.{answer-line}
 use Rattle.line.proofs.Exactly.{convert-good}
-use Rattle.line.proofs.Records.{record-good}
+use Rattle.line_record.proofs.Records.{record-good}
 use Rattle.line.proofs.convert.answer.Statement.{statement}
 use Rattle.line.proofs.convert.answer.Tie as tie
 

@@ -4,7 +4,7 @@ use Prim.Native.Nat.{_+_, _*_, _≤_}
 use native.Mathlib.Omega.{arith}
 use Rattle.line.specs.Convert.{lineVoltage}
 use Rattle.line.proofs.Answers.{line-sum-most}
-use Rattle.line.proofs.Records.{record-sound}
+use Rattle.line_record.proofs.Records.{record-sound}
 use Rattle.line.proofs.convert.calculate_voltage_linear.Statement.{statement}
 use Rattle.line.proofs.convert.calculate_voltage_linear.Tie as tie
 

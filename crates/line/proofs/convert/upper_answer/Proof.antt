@@ -5,7 +5,7 @@ use native.Mathlib.Omega.{arith}
 use borrow.Author.Needs.{needs}
 use Rattle.line.proofs.Answers.{beyond-line, answer-blend, answer-lookup, blend-mean, line-most, lookup-most}
 use Rattle.line.proofs.Exactly.{convert-good}
-use Rattle.line.proofs.Records.{record-good}
+use Rattle.line_record.proofs.Records.{record-good}
 use Rattle.line.proofs.convert.upper_answer.Statement.{statement}
 use Rattle.line.proofs.convert.upper_answer.Tie as tie
 

@@ -3,7 +3,7 @@ use Prim.Native.Nat.{_+_, _-_, _/_}
 use native.Mathlib.Omega.{arith}
 use borrow.Author.Needs.{needs}
 use Rattle.lut.proofs.Points.{Made, point-made}
-use Rattle.line.proofs.Records.{record-sound}
+use Rattle.line_record.proofs.Records.{record-sound}
 use Rattle.line.proofs.lookup.point.Statement.{statement}
 use Rattle.line.proofs.lookup.point.Tie as tie
 

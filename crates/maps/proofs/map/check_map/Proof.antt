@@ -1,7 +1,7 @@
 -- `maps::check_map` meets its contract: it is the outcome of `map_refusal`. Assumes nothing.
 use mathlib.Core.Path.{_∙_, ap}
 use borrow.Author.Needs.{needs}
-use Rattle.terms.specs.Refuse.{outcomeOf}
+use Rattle.terms.specs.Refusal.{outcomeOf}
 use Rattle.maps.proofs.map.check_map.Statement.{statement}
 use Rattle.maps.proofs.map.check_map.Tie as tie
 

@@ -5,7 +5,7 @@ use lib.Dec.{eqb}
 use denote.Ref.{now}
 use borrow.Author.Needs.{needs}
 use borrow.Author.Tests.{eq-eqb, ne-eqb}
-use Rattle.terms.specs.Refuse.{refuse}
+use Rattle.terms.specs.Refusal.{refuse}
 use Rattle.maps.specs.Map.{strayOf}
 use Rattle.maps.proofs.map.stray.Statement.{statement}
 use Rattle.maps.proofs.map.stray.Tie as tie

@@ -9,7 +9,7 @@ use Rattle.terms.proofs.Parts.{fill-part}
 use Rattle.terms.proofs.Tab.{Filled, fill-start, fill-done}
 use Rattle.line.specs.Convert.{answerAt}
 use Rattle.stretch.proofs.Exactly.{fill-good}
-use Rattle.line.proofs.Records.{record-good}
+use Rattle.line_record.proofs.Records.{record-good}
 use Rattle.stretch.proofs.Segments.{segment-ends}
 use Rattle.stretch.proofs.fill.fill_answers.Statement.{statement}
 use Rattle.stretch.proofs.fill.fill_answers.Tie as tie

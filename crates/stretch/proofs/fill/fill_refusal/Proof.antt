@@ -4,10 +4,10 @@ use native.Mathlib.Omega.{arith}
 use borrow.Author.Needs.{needs}
 use Rattle.terms.proofs.Refusals.{orElse-some}
 use Rattle.stretch.specs.Fill.{fillRefusal}
-use Rattle.line.specs.When.{good-record}
+use Rattle.line_record.specs.When.{good-record}
 use Rattle.stretch.specs.When.{bad-stretch, good-stretch}
 use Rattle.stretch.proofs.Exactly.{fill-exactly}
-use Rattle.line.proofs.Records.{record-sound}
+use Rattle.line_record.proofs.Records.{record-sound}
 use Rattle.stretch.proofs.fill.fill_refusal.Statement.{statement}
 use Rattle.stretch.proofs.fill.fill_refusal.Tie as tie
 

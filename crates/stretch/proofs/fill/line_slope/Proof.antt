@@ -3,7 +3,7 @@ use Prim.Native.Nat.{_+_, _*_, _≤_}
 use native.Mathlib.Omega.{arith}
 use borrow.Author.Needs.{needs}
 use Rattle.line.proofs.Answers.{line-sum-most}
-use Rattle.line.proofs.Records.{record-sound}
+use Rattle.line_record.proofs.Records.{record-sound}
 use Rattle.stretch.proofs.fill.line_slope.Statement.{statement}
 use Rattle.stretch.proofs.fill.line_slope.Tie as tie
 

@@ -9,7 +9,7 @@ use denote.Ref.{now}
 use borrow.Author.Needs.{needs}
 use Rattle.terms.proofs.Tab.{Filled, fill-start, fill-more, fill-done}
 use Rattle.line.specs.Convert.{blendOf}
-use Rattle.stretch.specs.Walk.{along}
+use Rattle.stretch.specs.Private.{along}
 use Rattle.line.proofs.Answers.{blend-mean, blend-within}
 use Rattle.stretch.proofs.Ramps.{ramp-next, ramp-room}
 use Rattle.stretch.proofs.ramp.blend_ramps.Statement.{statement}

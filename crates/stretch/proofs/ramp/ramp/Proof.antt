@@ -6,7 +6,7 @@ use lib.ListN.{length, length-set}
 use denote.Ref.{now}
 use borrow.Author.Needs.{needs}
 use Rattle.terms.proofs.Tab.{Filled, fill-start, fill-more, fill-done}
-use Rattle.stretch.specs.Walk.{along}
+use Rattle.stretch.specs.Private.{along}
 use Rattle.stretch.proofs.Ramps.{ramp-next, ramp-room, quotient-fits}
 use Rattle.stretch.proofs.ramp.ramp.Statement.{statement}
 use Rattle.stretch.proofs.ramp.ramp.Tie as tie

@@ -1,6 +1,6 @@
 -- `terms::raw_refusal` meets its contract: at each `return` the test that led there decides the definition's. Assumes nothing.
 use borrow.Author.Tests.{lt-ltb, le-ltb}
-use Rattle.terms.specs.Refuse.{rawRefusal}
+use Rattle.terms.specs.Refusal.{rawRefusal}
 use Rattle.terms.proofs.refusal.raw_refusal.Statement.{statement}
 use Rattle.terms.proofs.refusal.raw_refusal.Tie as tie
 

@@ -1,6 +1,6 @@
 -- `terms::unit_refusal` meets its contract: at each `return` the tests that led there decide the definition's. Assumes nothing.
 use borrow.Author.Tests.{lt-ltb, le-ltb}
-use Rattle.terms.specs.Refuse.{unitRefusal}
+use Rattle.terms.specs.Refusal.{unitRefusal}
 use Rattle.terms.proofs.refusal.unit_refusal.Statement.{statement}
 use Rattle.terms.proofs.refusal.unit_refusal.Tie as tie
 

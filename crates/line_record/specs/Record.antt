@@ -3,8 +3,8 @@
 use mathlib.Core.Bool.{Bool, _||_}
 use Prim.Native.Nat.{ℕ}
 use lib.Dec.{ltb, eqb}
-use Rattle.terms.specs.Refuse.{refuse}
-use Rattle.line.specs.declared.record.LineRecord.{LineRecord}
+use Rattle.terms.specs.Refusal.{refuse}
+use Rattle.line_record.specs.declared.record.LineRecord.{LineRecord}
 
 -- "Decoding sets yes exactly for attenuation 3"
 abbrev pub recordOf : ℕ → ℕ → ℕ → ℕ → ℕ → LineRecord

@@ -1,9 +1,9 @@
--- `line::check_record` meets its contract: it is the outcome of `record_refusal`. Assumes nothing.
+-- `line_record::check_record` meets its contract: it is the outcome of `record_refusal`. Assumes nothing.
 use mathlib.Core.Path.{_∙_, ap}
 use borrow.Author.Needs.{needs}
-use Rattle.terms.specs.Refuse.{outcomeOf}
-use Rattle.line.proofs.record.check_record.Statement.{statement}
-use Rattle.line.proofs.record.check_record.Tie as tie
+use Rattle.terms.specs.Refusal.{outcomeOf}
+use Rattle.line_record.proofs.record.check_record.Statement.{statement}
+use Rattle.line_record.proofs.record.check_record.Tie as tie
 
 record-refusal-requires : tie.Need-record-refusal-requires
 record-refusal-requires c κs = search needs

@@ -2,8 +2,8 @@
 use terms::refusal;
 use terms::refusal::Outcome;
 ghost use mathlib.Core.Path.{_≡_};
-ghost use Rattle.terms.specs.Refuse.{outcomeOf};
-ghost use Rattle.line.specs.Record.{recordOf, usesLookup, recordRefusal};
+ghost use Rattle.terms.specs.Refusal.{outcomeOf};
+ghost use Rattle.line_record.specs.Record.{recordOf, usesLookup, recordRefusal};
 
 const LARGEST_A: u32 = 131071;
 

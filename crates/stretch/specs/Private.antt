@@ -3,9 +3,9 @@ use mathlib.Core.Path.{_≡_}
 use mathlib.Core.Bool.{cond, not}
 use Prim.Native.Nat.{ℕ, _+_, _*_, _-_, _%_, _≤_, _<_}
 use lib.Dec.{ltb}
-use Rattle.line.specs.declared.record.LineRecord.{LineRecord}
+use Rattle.line_record.specs.declared.record.LineRecord.{LineRecord}
 use Rattle.line.specs.declared.lookup.Slope.{Slope}
-use Rattle.line.specs.Record.{usesLookup, recordRefusal}
+use Rattle.line_record.specs.Record.{usesLookup, recordRefusal}
 
 -- a sum k counts further on its slope
 abbrev pub along : Slope → ℕ → ℕ

@@ -1,11 +1,11 @@
--- `line::record_refusal` meets its contract: at each `return` the tests that led there decide the definition's. Assumes nothing.
+-- `line_record::record_refusal` meets its contract: at each `return` the tests that led there decide the definition's. Assumes nothing.
 use mathlib.Core.Path.{_≡_, sym, _∙_}
 use lib.Dec.{ltb}
 use borrow.Author.Tests.{lt-ltb, le-ltb}
-use Rattle.terms.specs.Refuse.{refuse}
-use Rattle.line.specs.Record.{recordRefusal}
-use Rattle.line.proofs.record.record_refusal.Statement.{statement}
-use Rattle.line.proofs.record.record_refusal.Tie as tie
+use Rattle.terms.specs.Refusal.{refuse}
+use Rattle.line_record.specs.Record.{recordRefusal}
+use Rattle.line_record.proofs.record.record_refusal.Statement.{statement}
+use Rattle.line_record.proofs.record.record_refusal.Tie as tie
 
 returns : tie.Need-returns
 unfolding recordRefusal

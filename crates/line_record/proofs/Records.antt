@@ -5,11 +5,11 @@ use mathlib.Core.Logic.{_⊎_, inl, inr}
 use Prim.Native.Nat.{ℕ}
 use lib.Dec.{ltb}
 use borrow.Author.Tests.{ltb-false, le-ltb}
-use Rattle.terms.specs.Refuse.{refuse}
+use Rattle.terms.specs.Refusal.{refuse}
 use Rattle.terms.proofs.Refusals.{refuse-none, or-none}
-use Rattle.line.specs.declared.record.LineRecord.{LineRecord}
-use Rattle.line.specs.Record.{recordRefusal}
-use Rattle.line.specs.When.{InRanges}
+use Rattle.line_record.specs.declared.record.LineRecord.{LineRecord}
+use Rattle.line_record.specs.Record.{recordRefusal}
+use Rattle.line_record.specs.When.{InRanges}
 
 -- a test with a number before others that give it or none
 one-number : (t : Bool) (n : ℕ) {after : ℕ} → (after ≡ 0) ⊎ (after ≡ n) → (refuse t n after ≡ 0) ⊎ (refuse t n after ≡ n)

@@ -1,0 +1,4 @@
+pub mod Exactly
+pub mod Records
+pub mod Says
+pub mod Unique

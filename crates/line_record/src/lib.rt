@@ -1,0 +1,2 @@
+// The line record: what converting and filling go by.
+pub mod record;
