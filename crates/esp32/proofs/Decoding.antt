@@ -5,9 +5,9 @@ use mathlib.Core.List.{List}
 use Prim.Native.Nat.{ℕ, _≤_}
 use Rattle.terms.specs.declared.chip.MapChip.the-variants.{Esp32}
 use Rattle.terms.proofs.Refusals.{orElse-none, orElse-some, byNumber-good, byNumber-refused}
-use Rattle.maps.specs.Input.{fieldsRefusal, decodingRefusal}
+use Rattle.inputs.specs.Input.{fieldsRefusal, decodingRefusal}
 use Rattle.maps.specs.Value.{valueById}
-use Rattle.maps.proofs.Inputs.{decoding-good}
+use Rattle.inputs.proofs.Inputs.{decoding-good}
 use Rattle.line_record.specs.declared.record.LineRecord.{LineRecord}
 use Rattle.esp32.specs.declared.characterize.Source.{Source}
 use Rattle.esp32.specs.declared.decode.Decoded.the-variants.{Record, Refused}

@@ -7,9 +7,9 @@ use Rattle.terms.specs.declared.chip.MapChip.the-variants.{Esp32}
 use Rattle.terms.specs.Exactly.{Exactly}
 use Rattle.terms.proofs.Exactly.{Some, exactly, by-first}
 use Rattle.terms.proofs.Order.{either, whether}
-use Rattle.maps.specs.Input.{decodingRefusal}
-use Rattle.maps.specs.When.{DecodingWhen}
-use Rattle.maps.proofs.Exactly.{decoding-exactly}
+use Rattle.inputs.specs.Input.{decodingRefusal}
+use Rattle.inputs.specs.When.{DecodingWhen}
+use Rattle.inputs.proofs.Exactly.{decoding-exactly}
 use Rattle.esp32.specs.Characterize.{sourceRefusal}
 use Rattle.esp32.specs.Decode.{twoPointUsed, sourceOf, decodeRefusal}
 use Rattle.esp32.specs.When.{topFor, DecodeWhen, before, underflow, decoded}

@@ -11,9 +11,9 @@ use Rattle.terms.specs.Unit.{byUnit}
 use Rattle.terms.proofs.Order.{picked}
 use Rattle.terms.proofs.Units.{by-unit}
 use Rattle.maps.specs.Map.{countsOf}
-use Rattle.maps.specs.Input.{fieldsRefusal}
+use Rattle.inputs.specs.Input.{fieldsRefusal}
 use Rattle.maps.specs.Value.{recordValue, valueById}
-use Rattle.maps.proofs.Values.{value-fits, value-is}
+use Rattle.inputs.proofs.Values.{value-fits, value-is}
 use Rattle.esp32.specs.declared.characterize.Source.{Source}
 use Rattle.esp32.specs.declared.characterize.Source.the-variants.{TwoPoint, Vref}
 use Rattle.esp32.specs.Private.{InBits}

@@ -5,7 +5,7 @@ use mathlib.Core.Bool.{true}
 use mathlib.Core.List.{List}
 use Prim.Native.Nat.{ℕ, _≤_, _<_}
 use Rattle.terms.specs.declared.chip.MapChip.the-variants.{Esp32}
-use Rattle.maps.specs.When.{DecodingWhen}
+use Rattle.inputs.specs.When.{DecodingWhen}
 use Rattle.esp32.specs.Code.{lowOf, highOf}
 use Rattle.esp32.specs.Characterize.{topOf}
 use Rattle.esp32.specs.Decode.{twoPointUsed, lowBits, highBits}

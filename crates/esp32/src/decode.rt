@@ -2,9 +2,9 @@
 use crate::characterize;
 use crate::characterize::Source;
 use crate::code;
+use inputs::input::decoding_refusal;
 use line_record::record;
 use line_record::record::LineRecord;
-use maps::input::decoding_refusal;
 use maps::value::record_value;
 use terms::chip::MapChip;
 use terms::refusal;
@@ -14,7 +14,7 @@ ghost use mathlib.Core.Path.{_≡_};
 ghost use Prim.Native.Nat.{_<_};
 ghost use Rattle.terms.specs.declared.chip.MapChip.the-variants.{Esp32};
 ghost use Rattle.dumps.specs.Dump.{eight};
-ghost use Rattle.maps.specs.Input.{fieldsRefusal};
+ghost use Rattle.inputs.specs.Input.{fieldsRefusal};
 ghost use Rattle.esp32.specs.Decode.{sourceOf, foundOf, recordFrom, decodeRefusal, numberOf, decodeOf};
 
 // Where an ESP32 map has its fields, whose ids are from 1 to 6.

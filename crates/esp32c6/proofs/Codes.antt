@@ -13,8 +13,8 @@ use Rattle.terms.proofs.Order.{picked}
 use Rattle.terms.proofs.Refusals.{orElse-none, orElse-some}
 use Rattle.terms.proofs.Sign.{sign-fits}
 use Rattle.terms.proofs.Whole.{up, dn, sum-is, not-negative}
-use Rattle.maps.specs.Input.{fieldsRefusal, decodingRefusal}
-use Rattle.maps.proofs.Inputs.{decoding-good}
+use Rattle.inputs.specs.Input.{fieldsRefusal, decodingRefusal}
+use Rattle.inputs.proofs.Inputs.{decoding-good}
 use Rattle.esp32c6.specs.Code.{versionRefusal, codeRefusal, offsetOf}
 
 module _ (words : ℕ → ℕ) (dump map : List ℕ) (minor unit atten : ℕ) where

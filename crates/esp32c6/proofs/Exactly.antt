@@ -8,9 +8,9 @@ use Rattle.terms.specs.declared.chip.MapChip.the-variants.{C6}
 use Rattle.terms.specs.Exactly.{Exactly}
 use Rattle.terms.proofs.Exactly.{Some, exactly, by-first}
 use Rattle.terms.proofs.Order.{equal-or}
-use Rattle.maps.specs.Input.{decodingRefusal}
-use Rattle.maps.specs.When.{DecodingWhen}
-use Rattle.maps.proofs.Exactly.{decoding-exactly}
+use Rattle.inputs.specs.Input.{decodingRefusal}
+use Rattle.inputs.specs.When.{DecodingWhen}
+use Rattle.inputs.proofs.Exactly.{decoding-exactly}
 use Rattle.terms.specs.C6Version.{versionOf}
 use Rattle.esp32c6.specs.Code.{versionRefusal, codeRefusal}
 use Rattle.esp32c6.specs.When.{CodeWhen, before, bad-version, good-version}

@@ -6,9 +6,9 @@ use native.Mathlib.Omega.{arith}
 use Rattle.terms.specs.declared.chip.MapChip.the-variants.{C6}
 use Rattle.terms.proofs.Check.{at-most, rule}
 use Rattle.maps.specs.Map.{countsOf}
-use Rattle.maps.specs.Input.{fieldsRefusal}
+use Rattle.inputs.specs.Input.{fieldsRefusal}
 use Rattle.maps.specs.Value.{valueById}
-use Rattle.maps.proofs.Values.{value-fits}
+use Rattle.inputs.proofs.Values.{value-fits}
 
 module _ (words : ℕ → ℕ) (dump map : List ℕ) (good : fieldsRefusal words C6 dump map ≡ 0) where
   module _ (atten : ℕ) (h : atten ≤ 3) where

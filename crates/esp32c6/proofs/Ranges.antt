@@ -10,9 +10,9 @@ use Rattle.terms.specs.Code.{valueOf}
 use Rattle.terms.specs.Reading.{valueOf as compensValue}
 use Rattle.terms.specs.Sign.{signMagnitude}
 use Rattle.terms.proofs.Whole.{up, dn}
-use Rattle.maps.specs.Input.{decodingRefusal}
+use Rattle.inputs.specs.Input.{decodingRefusal}
 use Rattle.maps.specs.Value.{valueById}
-use Rattle.maps.proofs.Inputs.{decoding-good}
+use Rattle.inputs.proofs.Inputs.{decoding-good}
 use Rattle.terms.specs.C6Version.{versionOf}
 use Rattle.esp32c6.specs.Code.{codeRefusal, initCodeOf, offsetOf, calCode, calCodeOf}
 use Rattle.esp32c6.specs.Channel.{chanCompensOf}

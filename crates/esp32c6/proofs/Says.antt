@@ -9,7 +9,7 @@ use Rattle.terms.specs.Code as code
 use Rattle.terms.specs.Reading as reading
 use Rattle.terms.specs.Voltage as voltage
 use Rattle.terms.proofs.Says.{code-says, reading-says, voltage-says}
-use Rattle.maps.specs.Input.{decodingRefusal}
+use Rattle.inputs.specs.Input.{decodingRefusal}
 use Rattle.maps.specs.Value.{valueById}
 use Rattle.esp32c6.specs.Channel.{compensOf, chanCompensOf}
 use Rattle.esp32c6.specs.Code.{codeRefusal, initCodeOf, calCode, calCodeOf}

@@ -6,7 +6,7 @@ use lib.IntN.{ℤ, pos, _*ℤ_}
 use Rattle.terms.specs.declared.chip.MapChip.the-variants.{C6}
 use Rattle.terms.specs.Refusal.{answered}
 use Rattle.terms.specs.Sign.{signMagnitude}
-use Rattle.maps.specs.Input.{decodingRefusal}
+use Rattle.inputs.specs.Input.{decodingRefusal}
 use Rattle.maps.specs.Value.{valueById}
 use Rattle.terms.specs.declared.reading.Reading.{Reading}
 use Rattle.terms.specs.declared.reading.Reading.the-variants.{Value, Refused}

@@ -9,7 +9,7 @@ use lib.IntN.{ℤ, pos, natAbs, _+ℤ_}
 use Rattle.terms.specs.declared.chip.MapChip.the-variants.{C6}
 use Rattle.terms.specs.Refusal.{refuse, orElse, answered}
 use Rattle.terms.specs.Sign.{signMagnitude}
-use Rattle.maps.specs.Input.{decodingRefusal}
+use Rattle.inputs.specs.Input.{decodingRefusal}
 use Rattle.maps.specs.Value.{valueById}
 use Rattle.terms.specs.declared.code.Code.{Code}
 use Rattle.terms.specs.declared.code.Code.the-variants.{Value, Refused}

@@ -1,4 +1,4 @@
--- Document 01, "Numbers given when a call is turned down": when the C6's codes give each number. Channel compensation has maps'
+-- Document 01, "Numbers given when a call is turned down": when the C6's codes give each number. Channel compensation has inputs'
 -- `DecodingWhen`; the reference voltage has terms' `UnitWhen`.
 -- A case says too that nothing before it is given; 0 is given where the call isn't turned down.
 use mathlib.Core.Path.{_≡_}
@@ -6,7 +6,7 @@ use mathlib.Core.Logic.{_⊎_}
 use mathlib.Core.List.{List}
 use Prim.Native.Nat.{ℕ}
 use Rattle.terms.specs.declared.chip.MapChip.the-variants.{C6}
-use Rattle.maps.specs.When.{DecodingWhen}
+use Rattle.inputs.specs.When.{DecodingWhen}
 use Rattle.terms.specs.C6Version.{versionOf}
 
 -- 1, 7 and those of the map, then 12

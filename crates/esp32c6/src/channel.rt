@@ -1,7 +1,7 @@
 // The C6's compensation by channel.
 use crate::field::ADC1_INIT_CODE_ATTEN0_CH0;
 use crate::field::get_signed_val;
-use maps::input::decoding_refusal;
+use inputs::input::decoding_refusal;
 use maps::value::record_value;
 use terms::chip::MapChip;
 use terms::reading::Reading;

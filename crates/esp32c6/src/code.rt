@@ -2,7 +2,7 @@
 use crate::field::ADC1_CAL_VOL_ATTEN0;
 use crate::field::ADC1_INIT_CODE_ATTEN0;
 use crate::field::get_signed_val;
-use maps::input::decoding_refusal;
+use inputs::input::decoding_refusal;
 use maps::value::record_value;
 use terms::c6_version::rtc_calib_version;
 use terms::chip::MapChip;

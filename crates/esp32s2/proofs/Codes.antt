@@ -6,8 +6,8 @@ use lib.ListN.{length}
 use borrow.Author.Tests.{eq-eqb, ne-eqb}
 use Rattle.terms.specs.declared.chip.MapChip.the-variants.{S2}
 use Rattle.terms.proofs.Refusals.{orElse-none, orElse-some}
-use Rattle.maps.specs.Input.{decodingRefusal}
-use Rattle.maps.proofs.Inputs.{fields-good, decoding-good}
+use Rattle.inputs.specs.Input.{decodingRefusal}
+use Rattle.inputs.proofs.Inputs.{fields-good, decoding-good}
 use Rattle.esp32s2.specs.Version.{versionOf}
 use Rattle.esp32s2.specs.Code.{codeRefusal}
 

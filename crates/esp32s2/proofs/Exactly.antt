@@ -6,9 +6,9 @@ use Rattle.terms.specs.declared.chip.MapChip.the-variants.{S2}
 use Rattle.terms.specs.Exactly.{Exactly}
 use Rattle.terms.proofs.Exactly.{Some, exactly, by-first}
 use Rattle.terms.proofs.Order.{equal-or}
-use Rattle.maps.specs.Input.{decodingRefusal}
-use Rattle.maps.specs.When.{DecodingWhen}
-use Rattle.maps.proofs.Exactly.{decoding-exactly}
+use Rattle.inputs.specs.Input.{decodingRefusal}
+use Rattle.inputs.specs.When.{DecodingWhen}
+use Rattle.inputs.proofs.Exactly.{decoding-exactly}
 use Rattle.esp32s2.specs.Version.{versionOf}
 use Rattle.esp32s2.specs.Code.{codeRefusal}
 use Rattle.esp32s2.specs.When.{CodeWhen, before, bad-version, good-version}

@@ -5,9 +5,9 @@ use Prim.Native.Nat.{ℕ, _+_, _^_, _<_}
 use Rattle.terms.specs.declared.chip.MapChip.the-variants.{S2}
 use Rattle.terms.proofs.Check.{at-most, rule}
 use Rattle.maps.specs.Map.{countsOf}
-use Rattle.maps.specs.Input.{fieldsRefusal}
+use Rattle.inputs.specs.Input.{fieldsRefusal}
 use Rattle.maps.specs.Value.{recordValue, valueById}
-use Rattle.maps.proofs.Values.{value-fits, value-is}
+use Rattle.inputs.proofs.Values.{value-fits, value-is}
 
 module _ (words : ℕ → ℕ) (dump map : List ℕ) (good : fieldsRefusal words S2 dump map ≡ 0) where
   pub field-fits : (k : ℕ) → k < 2 → valueById S2 dump map (7 + k) < 2 ^ 8

@@ -11,7 +11,7 @@ use Rattle.terms.specs.Code as code
 use Rattle.terms.specs.Voltage as voltage
 use Rattle.terms.proofs.Says.{Paper, says}
 use Rattle.terms.proofs.Says.{code-says as code-given, voltage-says}
-use Rattle.maps.specs.Input.{fieldsRefusal}
+use Rattle.inputs.specs.Input.{fieldsRefusal}
 use Rattle.maps.specs.Value.{valueById}
 use Rattle.esp32s2.specs.declared.encryption.FlashEncryption.the-variants.{Value as Encryption, Refused as No-encryption}
 use Rattle.esp32s2.specs.declared.version.Version.the-variants.{Value as Version, Refused as No-version}

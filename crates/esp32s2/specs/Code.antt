@@ -7,7 +7,7 @@ use lib.Dec.{eqb}
 use lib.IntN.{natAbs}
 use Rattle.terms.specs.declared.chip.MapChip.the-variants.{S2}
 use Rattle.terms.specs.Refusal.{refuse, orElse, answered}
-use Rattle.maps.specs.Input.{decodingRefusal}
+use Rattle.inputs.specs.Input.{decodingRefusal}
 use Rattle.terms.specs.declared.code.Code.{Code}
 use Rattle.terms.specs.declared.code.Code.the-variants.{Value, Refused}
 use Rattle.s2_readings.specs.declared.tag.RtcCalibParam.{RtcCalibParam}

@@ -1,11 +1,11 @@
 -- Document 01, "Numbers given when a call is turned down": when the S2's codes give each number. The version and flash encryption
--- have maps' `FieldsWhen`; the reference voltage has terms' `UnitWhen`.
+-- have inputs' `FieldsWhen`; the reference voltage has terms' `UnitWhen`.
 -- A case says too that nothing before it is given; 0 is given where the call isn't turned down.
 use mathlib.Core.Path.{_≡_}
 use mathlib.Core.List.{List}
 use Prim.Native.Nat.{ℕ}
 use Rattle.terms.specs.declared.chip.MapChip.the-variants.{S2}
-use Rattle.maps.specs.When.{DecodingWhen}
+use Rattle.inputs.specs.When.{DecodingWhen}
 use Rattle.esp32s2.specs.Version.{versionOf}
 
 -- a code: 1, 7 and those of the map, then 12

@@ -1,6 +1,6 @@
 // The S2's initial codes and reference codes, by unit and attenuation.
 use crate::version::BLK_VERSION_MINOR;
-use maps::input::decoding_refusal;
+use inputs::input::decoding_refusal;
 use maps::value::record_value;
 use s2_readings::reading::rtc_calib_reading;
 use s2_readings::tag::RtcCalibParam;

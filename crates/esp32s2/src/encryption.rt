@@ -1,5 +1,5 @@
 // The S2's flash encryption.
-use maps::input::fields_refusal;
+use inputs::input::fields_refusal;
 use maps::value::record_value;
 use terms::chip::MapChip;
 use terms::refusal;

@@ -1,5 +1,5 @@
 // The version of the S2's calibration.
-use maps::input::fields_refusal;
+use inputs::input::fields_refusal;
 use maps::value::record_value;
 use terms::chip::MapChip;
 use terms::refusal;

@@ -1,5 +1,5 @@
--- Each number of a map and of what goes by it is given exactly when: each case gives its number by the laws of the refusals, and the tests
--- leave no other case. Assumes nothing.
+-- Each number of a map is given exactly when: each case gives its number by the laws of the refusals, and the tests leave no other
+-- case. Assumes nothing.
 use mathlib.Core.Path.{_≡_, refl, sym, _∙_}
 use mathlib.Core.Bool.{not}
 use mathlib.Core.Logic.{inl, inr}
@@ -12,18 +12,15 @@ use Rattle.terms.specs.declared.chip.MapChip.{MapChip}
 use Rattle.terms.specs.Exactly.{Exactly}
 use Rattle.terms.specs.Refusal.{firstOf}
 use Rattle.terms.specs.When.{FirstWhen}
-use Rattle.terms.proofs.Exactly.{Some, exactly, case, by-first, unit-exactly, first-exactly}
+use Rattle.terms.proofs.Exactly.{Some, exactly, case, by-first, first-exactly}
 use Rattle.terms.proofs.Order.{either, equal-or}
-use Rattle.terms.proofs.Refusals.{refuse-none, orElse-given}
+use Rattle.terms.proofs.Refusals.{refuse-none}
 use Rattle.efuse.specs.declared.field.EfuseField.{EfuseField}
 use Rattle.efuse.specs.When.{PlaceWhen}
-use Rattle.dumps.proofs.Exactly.{dump-exactly}
 use Rattle.efuse.proofs.Exactly.{place-exactly}
 use Rattle.maps.specs.Map.{recordByte, fieldOf, strayOf, idsOf, countsOf, countRefusal, mapRecordRefusal, mapRecordRefusals, mapRefusal}
-use Rattle.maps.specs.Input.{fieldsRefusal, decodingRefusal}
 use Rattle.maps.specs.When.{Shaped, MapRecordWhen, bad-shape, bad-place, bad-count, good-record}
-use Rattle.maps.specs.When.{MapWhen, bad-length, records, FieldsWhen, fields-dump, fields-map}
-use Rattle.maps.specs.When.{DecodingWhen, decode-dump, decode-unit, decode-map}
+use Rattle.maps.specs.When.{MapWhen, bad-length, records}
 use Rattle.maps.proofs.Maps.{record-id, record-stray, record-place, record-count, map-length, map-records}
 
 -- a map
@@ -100,40 +97,3 @@ module _ (words : ℕ → ℕ) (map : List ℕ) where
 
     pub map-exactly : Exactly (mapRefusal words chip map) (MapWhen words chip map)
     map-exactly = exactly map-gives map-some
-
--- what goes by a map
-module _ (words : ℕ → ℕ) (chip : MapChip) (dump map : List ℕ) where
-  fields-gives : (n : ℕ) → FieldsWhen words chip dump map n → fieldsRefusal words chip dump map ≡ n
-  unfolding fieldsRefusal
-  fields-gives n (fields-dump d some) = orElse-given _ _ (dump-exactly dump n .1 d) some
-  fields-gives n (fields-map d m) = rw (dump-exactly dump 0 .1 d) (map-exactly words map chip n .1 m)
-
-  fields-some : Some (FieldsWhen words chip dump map)
-  fields-some =
-      by-first (dump-exactly dump)
-      (λ d. (_, fields-map d (case (map-exactly words map chip))))
-      (λ n d some. (n, fields-dump d some))
-
-  pub fields-exactly : Exactly (fieldsRefusal words chip dump map) (FieldsWhen words chip dump map)
-  fields-exactly = exactly fields-gives fields-some
-
-  module _ (unit atten : ℕ) where
-    decoding-gives : (n : ℕ) → DecodingWhen words chip dump map unit atten n → decodingRefusal words chip dump map unit atten ≡ n
-    unfolding decodingRefusal
-    decoding-gives n (decode-dump d some) = orElse-given _ _ (dump-exactly dump n .1 d) some
-    decoding-gives n (decode-unit d u some) =
-        rw (dump-exactly dump 0 .1 d) (orElse-given _ _ (unit-exactly unit atten n .1 u) some)
-    decoding-gives n (decode-map d u m) =
-        rw (dump-exactly dump 0 .1 d, unit-exactly unit atten 0 .1 u) (map-exactly words map chip n .1 m)
-
-    decoding-some : Some (DecodingWhen words chip dump map unit atten)
-    decoding-some =
-        by-first (dump-exactly dump)
-        (λ d.
-        by-first (unit-exactly unit atten)
-        (λ u. (_, decode-map d u (case (map-exactly words map chip))))
-        (λ n u some. (n, decode-unit d u some)))
-        (λ n d some. (n, decode-dump d some))
-
-    pub decoding-exactly : Exactly (decodingRefusal words chip dump map unit atten) (DecodingWhen words chip dump map unit atten)
-    decoding-exactly = exactly decoding-gives decoding-some

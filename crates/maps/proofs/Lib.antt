@@ -1,6 +1,4 @@
 pub mod Exactly
-pub mod Inputs
 pub mod Maps
 pub mod Says
 pub mod Unique
-pub mod Values

@@ -1,4 +1,3 @@
-pub mod Input
 pub mod Map
 pub mod Value
 pub mod When

@@ -1,4 +1,4 @@
--- Document 01, "Numbers given when a call is turned down": when a map and what goes by it give each number.
+-- Document 01, "Numbers given when a call is turned down": when a map gives each number.
 -- A case says too that nothing before it in the call's order is given; 0 is given where the call isn't turned down.
 use mathlib.Core.Path.{_≡_}
 use mathlib.Core.Logic.{_⊎_}
@@ -6,8 +6,7 @@ use mathlib.Core.List.{List}
 use Prim.Native.Nat.{ℕ, _+_, _*_, _≤_, _<_}
 use lib.ListN.{length}
 use Rattle.terms.specs.declared.chip.MapChip.{MapChip}
-use Rattle.terms.specs.When.{UnitWhen, FirstWhen}
-use Rattle.dumps.specs.When.{DumpWhen}
+use Rattle.terms.specs.When.{FirstWhen}
 use Rattle.efuse.specs.When.{PlaceWhen}
 use Rattle.maps.specs.Map.{recordByte, fieldOf, idsOf, countsOf}
 
@@ -36,15 +35,3 @@ pub data MapWhen (words : ℕ → ℕ) (chip : MapChip) (map : List ℕ) : ℕ �
   bad-length : (length map ≡ 8 * idsOf chip .len → ⊥) → MapWhen words chip map 2
   records : {n : ℕ} → length map ≡ 8 * idsOf chip .len
       → FirstWhen (λ k. MapRecordWhen words map (idsOf chip .first + k) k) (idsOf chip .len) n → MapWhen words chip map n
-
--- a dump and a chip's map: 1, then the map's
-pub data FieldsWhen (words : ℕ → ℕ) (chip : MapChip) (dump map : List ℕ) : ℕ → Type 0 where
-  fields-dump : {n : ℕ} → DumpWhen dump n → (n ≡ 0 → ⊥) → FieldsWhen words chip dump map n
-  fields-map : {n : ℕ} → DumpWhen dump 0 → MapWhen words chip map n → FieldsWhen words chip dump map n
-
--- with a unit and an attenuation: "Order: 1, 7, 2, then map records"
-pub data DecodingWhen (words : ℕ → ℕ) (chip : MapChip) (dump map : List ℕ) (unit atten : ℕ) : ℕ → Type 0 where
-  decode-dump : {n : ℕ} → DumpWhen dump n → (n ≡ 0 → ⊥) → DecodingWhen words chip dump map unit atten n
-  decode-unit : {n : ℕ} → DumpWhen dump 0 → UnitWhen unit atten n → (n ≡ 0 → ⊥) → DecodingWhen words chip dump map unit atten n
-  decode-map : {n : ℕ} → DumpWhen dump 0 → UnitWhen unit atten 0 → MapWhen words chip map n
-      → DecodingWhen words chip dump map unit atten n

@@ -169,7 +169,7 @@ fn first_refusal(map: &[u8], first: usize, n: usize) -> u8
 }
 
 // The first thing wrong with a map: 2, then its records first to last.
-pub(crate) fn map_refusal(chip: MapChip, map: &[u8]) -> u8
+pub fn map_refusal(chip: MapChip, map: &[u8]) -> u8
     ensures { λ r. ⌜ r ≡ mapRefusal eight chip (now (map .entry)) ⌝ }
 {
     let ids = ids_of(chip);

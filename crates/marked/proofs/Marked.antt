@@ -6,7 +6,7 @@ use Rattle.terms.specs.Sign.{signMagnitude}
 use Rattle.dumps.specs.Dump.{dumpRefusal}
 use Rattle.efuse.specs.Field.{bitsOf, placeRefusal, fieldBits}
 use Rattle.maps.specs.Map.{countRefusal, mapRecordRefusal, mapRefusal}
-use Rattle.maps.specs.Input.{decodingRefusal}
+use Rattle.inputs.specs.Input.{decodingRefusal}
 use Rattle.maps.specs.Value.{valueById}
 use Rattle.vref.specs.Coefficients.{vrefScale, vrefOffset}
 use Rattle.esp32.specs.Code.{vrefOf, twoPointCode, pointOf, lowOf, highOf}

@@ -5,8 +5,8 @@ use denote.Ref.{now}
 use borrow.Author.Needs.{needs}
 use Rattle.terms.specs.declared.chip.MapChip.the-variants.{Esp32}
 use Rattle.dumps.specs.Dump.{eight}
-use Rattle.maps.specs.Input.{decodingRefusal}
-use Rattle.maps.proofs.Inputs.{decoding-good}
+use Rattle.inputs.specs.Input.{decodingRefusal}
+use Rattle.inputs.proofs.Inputs.{decoding-good}
 use Rattle.esp32.specs.Decode.{foundOf, decodedRecord, decodeRefusal}
 use Rattle.esp32.proofs.Sources.{vref-fits, source-in-bits}
 use Rattle.esp32.proofs.Decoding.{decode-input, decode-source, decode-refused, decode-record}

@@ -11,10 +11,10 @@ use borrow.Author.Needs.{needs, sfits-of}
 use Rattle.terms.specs.declared.chip.MapChip.the-variants.{C6}
 use Rattle.terms.proofs.Refusals.{answered-good, answered-refused}
 use Rattle.dumps.specs.Dump.{eight}
-use Rattle.maps.specs.Input.{fieldsRefusal}
+use Rattle.inputs.specs.Input.{fieldsRefusal}
 use Rattle.maps.specs.Value.{valueById}
-use Rattle.maps.proofs.Inputs.{decoding-good}
-use Rattle.maps.proofs.Values.{value-is}
+use Rattle.inputs.proofs.Inputs.{decoding-good}
+use Rattle.inputs.proofs.Values.{value-is}
 use Rattle.terms.specs.declared.reading.Reading.the-variants.{Value, Refused}
 use Rattle.esp32c6.specs.Channel.{compensOf, chanCompensOf}
 use Rattle.esp32c6.proofs.Fields.{channel-fits}

@@ -8,9 +8,9 @@ use borrow.Author.Needs.{needs}
 use Rattle.terms.specs.declared.chip.MapChip.the-variants.{C6}
 use Rattle.terms.proofs.Refusals.{answered-good, answered-refused}
 use Rattle.dumps.specs.Dump.{eight}
-use Rattle.maps.specs.Input.{fieldsRefusal}
+use Rattle.inputs.specs.Input.{fieldsRefusal}
 use Rattle.maps.specs.Value.{valueById}
-use Rattle.maps.proofs.Values.{value-is}
+use Rattle.inputs.proofs.Values.{value-is}
 use Rattle.terms.specs.declared.code.Code.the-variants.{Value, Refused}
 use Rattle.esp32c6.specs.Code.{initCodeOf}
 use Rattle.esp32c6.proofs.Codes.{code-good}

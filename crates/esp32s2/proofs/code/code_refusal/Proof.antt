@@ -4,7 +4,7 @@ use mathlib.Core.Path.{_≡_, sym, _∙_}
 use lib.Dec.{lit≤}
 use denote.Ref.{now}
 use borrow.Author.Needs.{needs}
-use Rattle.maps.proofs.Inputs.{decoding-good}
+use Rattle.inputs.proofs.Inputs.{decoding-good}
 use Rattle.esp32s2.specs.Version.{versionOf}
 use Rattle.esp32s2.proofs.Codes.{code-decoding, code-twelve, code-given}
 use Rattle.esp32s2.proofs.Fields.{field-is}

@@ -6,7 +6,7 @@ use borrow.Author.Needs.{needs}
 use Rattle.terms.specs.declared.chip.MapChip.the-variants.{S2}
 use Rattle.terms.proofs.Refusals.{answered-good, answered-refused}
 use Rattle.dumps.specs.Dump.{eight}
-use Rattle.maps.specs.Input.{fieldsRefusal}
+use Rattle.inputs.specs.Input.{fieldsRefusal}
 use Rattle.maps.specs.Value.{valueById}
 use Rattle.esp32s2.specs.declared.encryption.FlashEncryption.the-variants.{Value, Refused}
 use Rattle.esp32s2.specs.Encryption.{oddOnes, flashEncryptionOf}

@@ -1,10 +1,10 @@
--- `maps::decoding_refusal` meets its contract: the first number that isn't 0 is the definition's. Assumes nothing.
+-- `inputs::decoding_refusal` meets its contract: the first number that isn't 0 is the definition's. Assumes nothing.
 use mathlib.Core.Path.{sym, _∙_}
 use borrow.Author.Needs.{needs}
 use Rattle.terms.proofs.Refusals.{orElse-given}
-use Rattle.maps.specs.Input.{decodingRefusal}
-use Rattle.maps.proofs.input.decoding_refusal.Statement.{statement}
-use Rattle.maps.proofs.input.decoding_refusal.Tie as tie
+use Rattle.inputs.specs.Input.{decodingRefusal}
+use Rattle.inputs.proofs.input.decoding_refusal.Statement.{statement}
+use Rattle.inputs.proofs.input.decoding_refusal.Tie as tie
 
 dump-refusal-requires : tie.Need-dump-refusal-requires
 dump-refusal-requires c κs = search needs

@@ -1,10 +1,10 @@
--- `maps::fields_refusal` meets its contract: the dump's number comes first, where it has one. Assumes nothing.
+-- `inputs::fields_refusal` meets its contract: the dump's number comes first, where it has one. Assumes nothing.
 use mathlib.Core.Path.{sym, _∙_}
 use borrow.Author.Needs.{needs}
 use Rattle.terms.proofs.Refusals.{orElse-given}
-use Rattle.maps.specs.Input.{fieldsRefusal}
-use Rattle.maps.proofs.input.fields_refusal.Statement.{statement}
-use Rattle.maps.proofs.input.fields_refusal.Tie as tie
+use Rattle.inputs.specs.Input.{fieldsRefusal}
+use Rattle.inputs.proofs.input.fields_refusal.Statement.{statement}
+use Rattle.inputs.proofs.input.fields_refusal.Tie as tie
 
 dump-refusal-requires : tie.Need-dump-refusal-requires
 dump-refusal-requires c κs = search needs

@@ -9,11 +9,11 @@ use Rattle.efuse.specs.declared.field.EfuseField.{EfuseField}
 use Rattle.efuse.specs.Field.{fieldBits, valueOf}
 use Rattle.efuse.proofs.Bits.{bits-fit}
 use Rattle.efuse.proofs.Places.{read-value}
 use Rattle.maps.specs.Map.{idsOf, fieldOf, countsOf}
-use Rattle.maps.specs.Input.{fieldsRefusal}
+use Rattle.inputs.specs.Input.{fieldsRefusal}
 use Rattle.maps.specs.Value.{recordValue, valueById}
 use Rattle.maps.proofs.Maps.{count-range, record-good, map-record, map-read}
-use Rattle.maps.proofs.Inputs.{fields-good}
+use Rattle.inputs.proofs.Inputs.{fields-good}
 
 -- of the field with an id of that chip, which is record k's
 module _ (words : ℕ → ℕ) (chip : MapChip) (dump map : List ℕ)

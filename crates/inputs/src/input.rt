@@ -1,12 +1,12 @@
 // What a call that goes by a map checks of its input before it reads a field, in document 01's order: 1, 7, then the map's.
-use crate::map::map_refusal;
 use dumps::dump::dump_refusal;
+use maps::map::map_refusal;
 use terms::chip::MapChip;
 use terms::refusal;
 use terms::refusal::unit_refusal;
 ghost use mathlib.Core.Path.{_≡_};
 ghost use Rattle.dumps.specs.Dump.{eight};
-ghost use Rattle.maps.specs.Input.{fieldsRefusal, decodingRefusal};
+ghost use Rattle.inputs.specs.Input.{fieldsRefusal, decodingRefusal};
 
 // The first thing wrong with a dump and a chip's map: 1, then the map's; 0 where each of the map's fields may be read.
 pub fn fields_refusal(chip: MapChip, dump: &[u32], map: &[u8]) -> u8

@@ -8,8 +8,8 @@ use Rattle.terms.specs.Refusal.{unitRefusal}
 use Rattle.terms.proofs.Refusals.{orElse-none, unit-inside}
 use Rattle.dumps.specs.Dump.{dumpRefusal}
 use Rattle.dumps.proofs.Dumps.{dump-whole}
 use Rattle.maps.specs.Map.{mapRefusal}
-use Rattle.maps.specs.Input.{fieldsRefusal, decodingRefusal}
+use Rattle.inputs.specs.Input.{fieldsRefusal, decodingRefusal}
 
 module _ (words : ℕ → ℕ) (chip : MapChip) (dump map : List ℕ) where
   -- a dump and a map that aren't refused

@@ -1,0 +1,4 @@
+pub mod Exactly
+pub mod Inputs
+pub mod Unique
+pub mod Values
