@@ -1,10 +1,10 @@
 // The S2's codes.
 use capi::answer::SkvCode;
 use capi::answer::code_c;
-use esp32s2::code;
+use s2_codes::code;
 ghost use mathlib.Core.Path.{_≡_};
 ghost use Rattle.dumps.specs.Dump.{eight};
-ghost use Rattle.esp32s2.specs.Code.{initCodeOf, calCodeOf};
+ghost use Rattle.s2_codes.specs.Code.{initCodeOf, calCodeOf};
 ghost use Rattle.capi.specs.Answer.{codeC};
 
 // The ADC's initial code for a unit and an attenuation. Refusals 1, 7, the map's, 12.

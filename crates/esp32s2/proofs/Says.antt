@@ -3,26 +3,20 @@ use mathlib.Core.Path.{refl}
 use mathlib.Core.Bool.{false}
 use mathlib.Core.List.{List}
 use Prim.Native.Nat.{ℕ}
-use lib.IntN.{natAbs}
 use Rattle.terms.specs.declared.chip.MapChip.the-variants.{S2}
 use Rattle.terms.specs.Refusal.{unitRefusal}
 use Rattle.terms.specs.Says.{Says}
-use Rattle.terms.specs.Code as code
 use Rattle.terms.specs.Voltage as voltage
 use Rattle.terms.proofs.Says.{Paper, says}
-use Rattle.terms.proofs.Says.{code-says as code-given, voltage-says}
+use Rattle.terms.proofs.Says.{voltage-says}
 use Rattle.inputs.specs.Input.{fieldsRefusal}
 use Rattle.maps.specs.Value.{valueById}
 use Rattle.esp32s2.specs.declared.encryption.FlashEncryption.the-variants.{Value as Encryption, Refused as No-encryption}
 use Rattle.esp32s2.specs.declared.version.Version.the-variants.{Value as Version, Refused as No-version}
 use Rattle.esp32s2.specs.Encryption as encryption
 use Rattle.esp32s2.specs.Version as version
-use Rattle.s2_readings.specs.declared.tag.RtcCalibParam.{RtcCalibParam}
-use Rattle.esp32s2.specs.Code.{codeRefusal, codeOf}
 use Rattle.esp32s2.specs.Encryption.{oddOnes, flashEncryptionOf}
-use Rattle.s2_readings.specs.Reading.{readingOf}
 use Rattle.esp32s2.specs.Reference.{millivoltsOf, calMvOf}
-use Rattle.s2_readings.specs.Tag.{tagOf}
 use Rattle.esp32s2.specs.Version.{versionOf, calibVersionOf}
 
 version-paper : Paper version.numberOf version.valueOf 0 Version No-version
@@ -45,14 +39,6 @@ module _ (words : ℕ → ℕ) (dump map : List ℕ) where
       (flashEncryptionOf words dump map) (fieldsRefusal words S2 dump map) (oddOnes (valueById S2 dump map 8))
   unfolding flashEncryptionOf
   encryption-says = says encryption-paper _ _
-
-  -- `rtc_calib_init_code` and `rtc_calib_cal_code`, by the parameter
-  pub code-says : (unit atten : ℕ) (param : RtcCalibParam)
-      → Says code.numberOf code.valueOf 0
-      (codeOf words dump map unit atten param) (codeRefusal words dump map unit atten)
-      (natAbs (readingOf dump false (tagOf 2 unit atten param)))
-  unfolding codeOf
-  code-says unit atten param = code-given _ _
 
 -- `rtc_calib_cal_mv`
 pub cal-mv-says : (unit atten : ℕ)

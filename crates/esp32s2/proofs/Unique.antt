@@ -3,19 +3,11 @@
 use mathlib.Core.Path.{sym, _∙_}
 use Rattle.terms.specs.OneAnswer.{OneAnswer}
 use Rattle.esp32s2.proofs.version.rtc_calib_version.Reads as rtc-calib-version
-use Rattle.esp32s2.proofs.code.rtc_calib_init_code.Reads as rtc-calib-init-code
-use Rattle.esp32s2.proofs.code.rtc_calib_cal_code.Reads as rtc-calib-cal-code
 use Rattle.esp32s2.proofs.reference.rtc_calib_cal_mv.Reads as rtc-calib-cal-mv
 use Rattle.esp32s2.proofs.encryption.flash_encryption.Reads as flash-encryption
 
 pub rtc-calib-version-one : OneAnswer (λ κs z e. z) rtc-calib-version.Post
 rtc-calib-version-one κs a z z′ e e′ p q = p ∙ sym q
-
-pub rtc-calib-init-code-one : OneAnswer (λ κs z e. z) rtc-calib-init-code.Post
-rtc-calib-init-code-one κs a z z′ e e′ p q = p ∙ sym q
-
-pub rtc-calib-cal-code-one : OneAnswer (λ κs z e. z) rtc-calib-cal-code.Post
-rtc-calib-cal-code-one κs a z z′ e e′ p q = p ∙ sym q
 
 pub rtc-calib-cal-mv-one : OneAnswer (λ κs z e. z) rtc-calib-cal-mv.Post
 rtc-calib-cal-mv-one κs a z z′ e e′ p q = p ∙ sym q

@@ -1,5 +1,3 @@
-pub mod Code
 pub mod Encryption
 pub mod Reference
 pub mod Version
-pub mod When

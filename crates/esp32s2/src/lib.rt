@@ -1,5 +1,4 @@
-// The S2's calibration: its version, initial and reference codes, reference voltages; flash encryption.
-pub mod code;
+// What the S2's eFuse says: its version, its reference voltages, flash encryption. Its codes are `s2_codes`.
 pub mod encryption;
 pub mod reference;
 pub mod version;

@@ -9,7 +9,7 @@ ghost use Rattle.dumps.specs.Dump.{eight};
 ghost use Rattle.esp32s2.specs.Version.{calibVersionOf};
 
 // Where the map has the field with id 7.
-pub(crate) const BLK_VERSION_MINOR: usize = 0;
+pub const BLK_VERSION_MINOR: usize = 0;
 
 // A version, or why there is none.
 pub enum Version {

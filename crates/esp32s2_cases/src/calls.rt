@@ -1,5 +1,4 @@
 // data/calls: calls on dumps with their maps, and their answers.
-use esp32s2::code;
 use esp32s2::encryption;
 use esp32s2::encryption::FlashEncryption;
 use esp32s2::reference;
@@ -8,6 +7,7 @@ use esp32s2::version::Version;
 use replay::answer;
 use replay::answer::Answer;
 use replay::bytes;
+use s2_codes::code;
 use s2_readings::reading;
 use s2_readings::tag::RtcCalibParam;
 

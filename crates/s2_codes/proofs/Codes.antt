@@ -8,8 +8,8 @@ use Rattle.terms.specs.declared.chip.MapChip.the-variants.{S2}
 use Rattle.terms.proofs.Refusals.{orElse-none, orElse-some}
 use Rattle.inputs.specs.Input.{decodingRefusal}
 use Rattle.inputs.proofs.Inputs.{fields-good, decoding-good}
 use Rattle.esp32s2.specs.Version.{versionOf}
-use Rattle.esp32s2.specs.Code.{codeRefusal}
+use Rattle.s2_codes.specs.Code.{codeRefusal}
 
 module _ (words : ℕ → ℕ) (dump map : List ℕ) (unit atten : ℕ) where
   module _ {n : ℕ} (e : n ≡ decodingRefusal words S2 dump map unit atten) where

@@ -1,15 +1,15 @@
--- `esp32s2::code_refusal` meets its contract: at each `return` the tests that led there say which case of the definition holds.
+-- `s2_codes::code_refusal` meets its contract: at each `return` the tests that led there say which case of the definition holds.
 -- Assumes nothing.
 use mathlib.Core.Path.{_≡_, sym, _∙_}
 use lib.Dec.{lit≤}
 use denote.Ref.{now}
 use borrow.Author.Needs.{needs}
 use Rattle.inputs.proofs.Inputs.{decoding-good}
 use Rattle.esp32s2.specs.Version.{versionOf}
-use Rattle.esp32s2.proofs.Codes.{code-decoding, code-twelve, code-given}
+use Rattle.s2_codes.proofs.Codes.{code-decoding, code-twelve, code-given}
 use Rattle.esp32s2.proofs.Fields.{field-is}
-use Rattle.esp32s2.proofs.code.code_refusal.Statement.{statement}
-use Rattle.esp32s2.proofs.code.code_refusal.Tie as tie
+use Rattle.s2_codes.proofs.code.code_refusal.Statement.{statement}
+use Rattle.s2_codes.proofs.code.code_refusal.Tie as tie
 
 decoding-refusal-requires : tie.Need-decoding-refusal-requires
 decoding-refusal-requires c κs = search needs

@@ -1,5 +1,5 @@
 // The S2's initial codes and reference codes, by unit and attenuation.
-use crate::version::BLK_VERSION_MINOR;
+use esp32s2::version::BLK_VERSION_MINOR;
 use inputs::input::decoding_refusal;
 use maps::value::record_value;
 use s2_readings::reading::rtc_calib_reading;
@@ -17,7 +17,7 @@ ghost use lib.ListN.{length};
 ghost use Rattle.dumps.specs.Dump.{eight};
 ghost use Rattle.s2_readings.specs.Reading.{readingOf};
 ghost use Rattle.s2_readings.specs.Tag.{tagOf};
-ghost use Rattle.esp32s2.specs.Code.{codeRefusal, codeOf, initCodeOf, calCodeOf};
+ghost use Rattle.s2_codes.specs.Code.{codeRefusal, codeOf, initCodeOf, calCodeOf};
 
 const CODE_VERSION: u8 = 2;
 

@@ -15,8 +15,8 @@ use Rattle.s2_readings.specs.Tag.{byVersion, firstTag, tagOf}
 use Rattle.s2_readings.proofs.Rule.{Spread, spread}
 use Rattle.s2_readings.proofs.Ranges.{Between, by-spread}
 use Rattle.s2_readings.proofs.Tags.{tag-is}
-use Rattle.esp32s2.specs.Code.{codeRefusal, codeOf, initCodeOf, calCodeOf}
-use Rattle.esp32s2.proofs.Codes.{code-good}
+use Rattle.s2_codes.specs.Code.{codeRefusal, codeOf, initCodeOf, calCodeOf}
+use Rattle.s2_codes.proofs.Codes.{code-good}
 
 -- the codes: both parameters pair with version 2, and each has eight tags, which one computed test goes through
 pub init-pairs : firstTag 2 Vinit ≡ 25

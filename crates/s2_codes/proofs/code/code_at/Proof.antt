@@ -1,4 +1,4 @@
--- `esp32s2::code_at` meets its contract: with the input checked there is a reading, which isn't negative and fits 16 bits. Assumes nothing.
+-- `s2_codes::code_at` meets its contract: with the input checked there is a reading, which isn't negative and fits 16 bits. Assumes nothing.
 use mathlib.Core.Path.{_≡_, _∙_}
 use mathlib.Core.Bool.{false}
 use lib.Signed.{pos-natAbs}
@@ -14,8 +14,8 @@ use Rattle.s2_readings.proofs.Chains.{reading-whole}
 use Rattle.s2_readings.proofs.Fits.{reading-small}
 use Rattle.s2_readings.proofs.Readings.{reading-is, reading-there}
 use Rattle.s2_readings.proofs.Tags.{tag-in-table}
-use Rattle.esp32s2.proofs.code.code_at.Statement.{statement}
-use Rattle.esp32s2.proofs.code.code_at.Tie as tie
+use Rattle.s2_codes.proofs.code.code_at.Statement.{statement}
+use Rattle.s2_codes.proofs.code.code_at.Tie as tie
 
 rtc-calib-reading-requires : tie.Need-rtc-calib-reading-requires
 rtc-calib-reading-requires c κs = search needs

@@ -9,10 +9,10 @@ use Rattle.terms.proofs.Order.{equal-or}
 use Rattle.inputs.specs.Input.{decodingRefusal}
 use Rattle.inputs.specs.When.{DecodingWhen}
 use Rattle.inputs.proofs.Exactly.{decoding-exactly}
 use Rattle.esp32s2.specs.Version.{versionOf}
-use Rattle.esp32s2.specs.Code.{codeRefusal}
-use Rattle.esp32s2.specs.When.{CodeWhen, before, bad-version, good-version}
-use Rattle.esp32s2.proofs.Codes.{code-decoding, code-twelve, code-given}
+use Rattle.s2_codes.specs.Code.{codeRefusal}
+use Rattle.s2_codes.specs.When.{CodeWhen, before, bad-version, good-version}
+use Rattle.s2_codes.proofs.Codes.{code-decoding, code-twelve, code-given}
 
 module _ (words : ℕ → ℕ) (dump map : List ℕ) (unit atten : ℕ) where
   abbrev input : Exactly (decodingRefusal words S2 dump map unit atten) (DecodingWhen words S2 dump map unit atten)

@@ -1,13 +1,13 @@
--- `esp32s2::code_of` meets its contract: where nothing is refused the table may be read. Assumes nothing.
+-- `s2_codes::code_of` meets its contract: where nothing is refused the table may be read. Assumes nothing.
 use mathlib.Core.Path.{sym, _∙_, ap}
 use lib.IntN.{ℤ, natAbs}
 use borrow.Author.Needs.{needs}
 use Rattle.terms.proofs.Refusals.{answered-good, answered-refused}
 use Rattle.terms.specs.declared.code.Code.the-variants.{Value, Refused}
-use Rattle.esp32s2.specs.Code.{codeOf}
-use Rattle.esp32s2.proofs.Codes.{code-good}
-use Rattle.esp32s2.proofs.code.code_of.Statement.{statement}
-use Rattle.esp32s2.proofs.code.code_of.Tie as tie
+use Rattle.s2_codes.specs.Code.{codeOf}
+use Rattle.s2_codes.proofs.Codes.{code-good}
+use Rattle.s2_codes.proofs.code.code_of.Statement.{statement}
+use Rattle.s2_codes.proofs.code.code_of.Tie as tie
 
 code-refusal-requires : tie.Need-code-refusal-requires
 code-refusal-requires c κs = search needs

@@ -1,0 +1,5 @@
+pub mod Codes
+pub mod Exactly
+pub mod Ranges
+pub mod Says
+pub mod Unique
