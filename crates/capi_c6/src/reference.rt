@@ -1,9 +1,9 @@
 // The C6's reference voltages.
 use capi::answer::SkvVoltage;
 use capi::answer::voltage_c;
-use esp32c6::reference;
+use references::c6;
 ghost use mathlib.Core.Path.{_≡_};
-ghost use Rattle.esp32c6.specs.Reference.{calMvOf};
+ghost use Rattle.references.specs.C6.{calMvOf};
 ghost use Rattle.capi.specs.Answer.{voltageC};
 
 // The reference voltage of an attenuation. Refusal 7.
@@ -11,5 +11,5 @@ ghost use Rattle.capi.specs.Answer.{voltageC};
 pub extern "C" fn skv_c6_cal_mv(minor: u8, unit: u8, atten: u8) -> SkvVoltage
     ensures { λ r. ⌜ r ≡ voltageC (calMvOf minor unit atten) ⌝ }
 {
-    voltage_c(reference::rtc_calib_cal_mv(minor, unit, atten))
+    voltage_c(c6::rtc_calib_cal_mv(minor, unit, atten))
 }

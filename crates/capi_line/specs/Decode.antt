@@ -1,6 +1,6 @@
 -- A decoding, as C is given it.
-use Rattle.esp32.specs.declared.decode.Decoded.{Decoded}
-use Rattle.esp32.specs.Decode.{numberOf, valueOf}
+use Rattle.line_record.specs.declared.decoded.Decoded.{Decoded}
+use Rattle.line_record.specs.Decoded.{numberOf, valueOf}
 use Rattle.capi_line.specs.declared.decode.SkvDecoded.{SkvDecoded}
 use Rattle.capi.specs.Answer.{refusalC}
 use Rattle.capi_line.specs.Record.{recordC}

@@ -5,7 +5,8 @@ use crate::record::record_c;
 use capi::answer::SkvRefusal;
 use capi::answer::refusal_c;
 use esp32::decode;
-use esp32::decode::Decoded;
+use line_record::decoded::Decoded;
+use line_record::decoded::number_of;
 use terms::refusal;
 ghost use mathlib.Core.Path.{_≡_};
 ghost use Rattle.dumps.specs.Dump.{eight};
@@ -25,7 +26,7 @@ fn decoded_c(decoded: Decoded) -> SkvDecoded
 {
     let Decoded::Record(cal) = decoded else {
         return SkvDecoded {
-            refusal: refusal_c(decode::number_of(decoded)),
+            refusal: refusal_c(number_of(decoded)),
             record: NO_RECORD,
         };
     };

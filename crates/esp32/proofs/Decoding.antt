@@ -10,7 +10,7 @@ use Rattle.maps.specs.Value.{valueById}
 use Rattle.inputs.proofs.Inputs.{decoding-good}
 use Rattle.line_record.specs.declared.record.LineRecord.{LineRecord}
 use Rattle.esp32.specs.declared.characterize.Source.{Source}
-use Rattle.esp32.specs.declared.decode.Decoded.the-variants.{Record, Refused}
+use Rattle.line_record.specs.declared.decoded.Decoded.the-variants.{Record, Refused}
 use Rattle.line_record.specs.Record.{recordRefusal}
 use Rattle.esp32.specs.Code.{vrefOf}
 use Rattle.esp32.specs.Characterize.{sourceRefusal}

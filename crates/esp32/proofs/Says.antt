@@ -4,8 +4,9 @@ use mathlib.Core.List.{List}
 use Prim.Native.Nat.{ℕ}
 use Rattle.terms.specs.Says.{Says}
 use Rattle.terms.proofs.Says.{Paper, says}
-use Rattle.esp32.specs.declared.decode.Decoded.the-variants.{Record, Refused}
-use Rattle.esp32.specs.Decode.{decodedRecord, decodeRefusal, numberOf, noRecord, valueOf, decodeOf}
+use Rattle.line_record.specs.declared.decoded.Decoded.the-variants.{Record, Refused}
+use Rattle.line_record.specs.Decoded.{numberOf, noRecord, valueOf}
+use Rattle.esp32.specs.Decode.{decodedRecord, decodeRefusal, decodeOf}
 
 pub decoded-paper : Paper numberOf valueOf noRecord Record Refused
 decoded-paper =

@@ -2,10 +2,6 @@
 use mathlib.Core.Path.{sym, _∙_}
 use Rattle.terms.specs.OneAnswer.{OneAnswer}
 use Rattle.esp32.proofs.decode.decode.Reads as decode
-use Rattle.esp32.proofs.decode.number_of.Reads as number-of
 
 pub decode-one : OneAnswer (λ κs z e. z) decode.Post
 decode-one κs a z z′ e e′ p q = p ∙ sym q
-
-pub number-of-one : OneAnswer (λ κs z e. z) number-of.Post
-number-of-one κs a z z′ e e′ p q = p ∙ sym q

@@ -2,7 +2,7 @@
 -- records first to last with 3, 4, 5, 6 within each, then .. 9". A dump is the list of its words, a map that of its bytes.
 -- In the crate: `new_cal` and `check_efuse_tp` of calibration/line/esp32.rs, which cites ESP-IDF's
 -- components/esp_adc/esp32/adc_cali_line_fitting.c, line 155.
-use mathlib.Core.Bool.{Bool, false, not, cond, _&&_}
+use mathlib.Core.Bool.{Bool, not, cond, _&&_}
 use mathlib.Core.List.{List}
 use Prim.Native.Nat.{ℕ}
 use lib.Dec.{eqb}
@@ -15,8 +15,8 @@ use Rattle.line_record.specs.declared.record.LineRecord.{LineRecord}
 use Rattle.esp32.specs.declared.characterize.Source.{Source}
 use Rattle.esp32.specs.declared.characterize.Source.the-variants.{TwoPoint, Vref}
 use Rattle.esp32.specs.declared.decode.Found.{Found}
-use Rattle.esp32.specs.declared.decode.Decoded.{Decoded}
-use Rattle.esp32.specs.declared.decode.Decoded.the-variants.{Record, Refused}
+use Rattle.line_record.specs.declared.decoded.Decoded.{Decoded}
+use Rattle.line_record.specs.declared.decoded.Decoded.the-variants.{Record, Refused}
 use Rattle.line_record.specs.Record.{recordOf}
 use Rattle.esp32.specs.Code.{vrefOf}
 use Rattle.esp32.specs.Characterize.{coefficientsOf, sourceRefusal}
@@ -61,18 +61,6 @@ unfoldable pub decodeRefusal : (ℕ → ℕ) → List ℕ → List ℕ → ℕ �
 decodeRefusal words dump map unit atten =
     orElse (decodingRefusal words Esp32 dump map unit atten)
     (sourceRefusal unit (sourceOf dump map unit))
-
--- document 01's number and record of a decoding, zeros beside a refusal
-abbrev pub numberOf : Decoded → ℕ
-numberOf (Record r) = 0
-numberOf (Refused r) = r .number
-
-abbrev pub noRecord : LineRecord
-noRecord = record { «coeff_a» = 0; «coeff_b» = 0; vref = 0; unit = 0; «use_lut» = false }
-
-abbrev pub valueOf : Decoded → LineRecord
-valueOf (Record r) = r
-valueOf (Refused r) = noRecord
 
 -- "Decoding answers a record or one number"
 unfoldable pub decodeOf : (ℕ → ℕ) → List ℕ → List ℕ → ℕ → ℕ → Decoded

@@ -3,6 +3,7 @@ use crate::characterize;
 use crate::characterize::Source;
 use crate::code;
 use inputs::input::decoding_refusal;
+use line_record::decoded::Decoded;
 use line_record::record;
 use line_record::record::LineRecord;
 use maps::value::record_value;
@@ -15,7 +16,7 @@ ghost use Prim.Native.Nat.{_<_};
 ghost use Rattle.terms.specs.declared.chip.MapChip.the-variants.{Esp32};
 ghost use Rattle.dumps.specs.Dump.{eight};
 ghost use Rattle.inputs.specs.Input.{fieldsRefusal};
-ghost use Rattle.esp32.specs.Decode.{sourceOf, foundOf, recordFrom, decodeRefusal, numberOf, decodeOf};
+ghost use Rattle.esp32.specs.Decode.{sourceOf, foundOf, recordFrom, decodeRefusal, decodeOf};
 
 // Where an ESP32 map has its fields, whose ids are from 1 to 6.
 const ADC_VREF: usize = 0;
@@ -29,12 +30,6 @@ const ADC2_TP_LOW: usize = 3;
 const ADC1_TP_HIGH: usize = 4;
 
 const ADC2_TP_HIGH: usize = 5;
-
-// A line record, or why there is none.
-pub enum Decoded {
-    Record(LineRecord),
-    Refused(Refusal),
-}
 
 // What a record is made from: where a and b come from with the raw codes, the raw bits of ADC_VREF, and a and b.
 pub(crate) struct Found {
@@ -107,14 +102,4 @@ pub fn decode(dump: &[u32], map: &[u8], unit: u8, atten: u8) -> Decoded
         return Decoded::Refused(Refusal { number });
     }
     Decoded::Record(record_from(find(dump, map, unit, atten, source), unit, atten))
-}
-
-// Document 01's number of a decoding: 0 where there is a record.
-pub fn number_of(decoded: Decoded) -> u8
-    ensures { λ r. ⌜ r ≡ numberOf decoded ⌝ }
-{
-    match decoded {
-        Decoded::Record(_) => refusal::NONE,
-        Decoded::Refused(why) => why.number,
-    }
 }

@@ -3,17 +3,14 @@ use mathlib.Core.List.{List}
 use Prim.Native.Nat.{ℕ, _+_, min}
 use lib.IntN.{pos, natAbs}
 use Rattle.terms.specs.declared.chip.MapChip.the-variants.{C6}
-use Rattle.terms.specs.Refusal.{unitRefusal}
 use Rattle.terms.specs.Says.{Says}
 use Rattle.terms.specs.Code as code
 use Rattle.terms.specs.Reading as reading
-use Rattle.terms.specs.Voltage as voltage
-use Rattle.terms.proofs.Says.{code-says, reading-says, voltage-says}
+use Rattle.terms.proofs.Says.{code-says, reading-says}
 use Rattle.inputs.specs.Input.{decodingRefusal}
 use Rattle.maps.specs.Value.{valueById}
 use Rattle.esp32c6.specs.Channel.{compensOf, chanCompensOf}
 use Rattle.esp32c6.specs.Code.{codeRefusal, initCodeOf, calCode, calCodeOf}
-use Rattle.esp32c6.specs.Reference.{millivoltsOf, calMvOf}
 use Rattle.terms.specs.C6Version.{versionOf}
 
 module _ (words : ℕ → ℕ) (dump map : List ℕ) (minor unit atten : ℕ) where
@@ -37,10 +34,3 @@ pub compens-says : (words : ℕ → ℕ) (dump map : List ℕ) (unit channel att
     (compensOf atten (valueById C6 dump map (17 + min channel 6)))
 unfolding chanCompensOf
 compens-says words dump map unit channel atten = reading-says _ _
-
--- `rtc_calib_cal_mv`
-pub cal-mv-says : (minor unit atten : ℕ)
-    → Says voltage.numberOf voltage.valueOf (record { 0 = 0 })
-    (calMvOf minor unit atten) (unitRefusal unit atten) (record { 0 = millivoltsOf (versionOf minor) atten })
-unfolding calMvOf
-cal-mv-says minor unit atten = voltage-says _ _

@@ -5,7 +5,6 @@ use Rattle.terms.specs.OneAnswer.{OneAnswer}
 use Rattle.esp32c6.proofs.code.rtc_calib_init_code.Reads as rtc-calib-init-code
 use Rattle.esp32c6.proofs.code.rtc_calib_cal_code.Reads as rtc-calib-cal-code
 use Rattle.esp32c6.proofs.channel.rtc_calib_get_chan_compens.Reads as rtc-calib-get-chan-compens
-use Rattle.esp32c6.proofs.reference.rtc_calib_cal_mv.Reads as rtc-calib-cal-mv
 
 pub rtc-calib-init-code-one : OneAnswer (λ κs z e. z) rtc-calib-init-code.Post
 rtc-calib-init-code-one κs a z z′ e e′ p q = p ∙ sym q
@@ -15,6 +14,3 @@ rtc-calib-cal-code-one κs a z z′ e e′ p q = p ∙ sym q
 
 pub rtc-calib-get-chan-compens-one : OneAnswer (λ κs z e. z) rtc-calib-get-chan-compens.Post
 rtc-calib-get-chan-compens-one κs a z z′ e e′ p q = p ∙ sym q
-
-pub rtc-calib-cal-mv-one : OneAnswer (λ κs z e. z) rtc-calib-cal-mv.Post
-rtc-calib-cal-mv-one κs a z z′ e e′ p q = p ∙ sym q

@@ -1,4 +1,3 @@
 pub mod Channel
 pub mod Code
-pub mod Reference
 pub mod When

@@ -1,5 +1,5 @@
 -- Document 01, "Numbers given when a call is turned down": when the C6's codes give each number. Channel compensation has inputs'
--- `DecodingWhen`; the reference voltage has terms' `UnitWhen`.
+-- `DecodingWhen`.
 -- A case says too that nothing before it is given; 0 is given where the call isn't turned down.
 use mathlib.Core.Path.{_≡_}
 use mathlib.Core.Logic.{_⊎_}

@@ -1,5 +1,4 @@
-// The C6's calibration: its initial and reference codes, channel compensation and reference voltages.
+// The C6's calibration: its initial and reference codes, and channel compensation.
 pub mod channel;
 pub mod code;
 mod field;
-pub mod reference;

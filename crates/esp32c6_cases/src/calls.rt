@@ -1,7 +1,7 @@
 // data/calls: calls on dumps, with a record of the map replaced, and their answers.
 use esp32c6::channel;
 use esp32c6::code;
-use esp32c6::reference;
+use references::c6;
 use replay::answer;
 use replay::answer::Answer;
 use replay::bytes;
@@ -35,7 +35,7 @@ fn call_answer(dump: &[u32], map: &[u8], case: &[u8]) -> Answer {
             channel,
             atten,
         )),
-        _ => answer::voltage(reference::rtc_calib_cal_mv(minor, unit, atten)),
+        _ => answer::voltage(c6::rtc_calib_cal_mv(minor, unit, atten)),
     }
 }
 

@@ -4,11 +4,8 @@ use mathlib.Core.Bool.{false}
 use mathlib.Core.List.{List}
 use Prim.Native.Nat.{ℕ}
 use Rattle.terms.specs.declared.chip.MapChip.the-variants.{S2}
-use Rattle.terms.specs.Refusal.{unitRefusal}
 use Rattle.terms.specs.Says.{Says}
-use Rattle.terms.specs.Voltage as voltage
 use Rattle.terms.proofs.Says.{Paper, says}
-use Rattle.terms.proofs.Says.{voltage-says}
 use Rattle.inputs.specs.Input.{fieldsRefusal}
 use Rattle.maps.specs.Value.{valueById}
 use Rattle.esp32s2.specs.declared.encryption.FlashEncryption.the-variants.{Value as Encryption, Refused as No-encryption}
@@ -16,7 +13,6 @@ use Rattle.esp32s2.specs.declared.version.Version.the-variants.{Value as
 use Rattle.esp32s2.specs.Encryption as encryption
 use Rattle.esp32s2.specs.Version as version
 use Rattle.esp32s2.specs.Encryption.{oddOnes, flashEncryptionOf}
-use Rattle.esp32s2.specs.Reference.{millivoltsOf, calMvOf}
 use Rattle.esp32s2.specs.Version.{versionOf, calibVersionOf}
 
 version-paper : Paper version.numberOf version.valueOf 0 Version No-version
@@ -39,10 +35,3 @@ module _ (words : ℕ → ℕ) (dump map : List ℕ) where
       (flashEncryptionOf words dump map) (fieldsRefusal words S2 dump map) (oddOnes (valueById S2 dump map 8))
   unfolding flashEncryptionOf
   encryption-says = says encryption-paper _ _
-
--- `rtc_calib_cal_mv`
-pub cal-mv-says : (unit atten : ℕ)
-    → Says voltage.numberOf voltage.valueOf (record { 0 = 0 })
-    (calMvOf unit atten) (unitRefusal unit atten) (record { 0 = millivoltsOf atten })
-unfolding calMvOf
-cal-mv-says unit atten = voltage-says _ _

@@ -3,14 +3,10 @@
 use mathlib.Core.Path.{sym, _∙_}
 use Rattle.terms.specs.OneAnswer.{OneAnswer}
 use Rattle.esp32s2.proofs.version.rtc_calib_version.Reads as rtc-calib-version
-use Rattle.esp32s2.proofs.reference.rtc_calib_cal_mv.Reads as rtc-calib-cal-mv
 use Rattle.esp32s2.proofs.encryption.flash_encryption.Reads as flash-encryption
 
 pub rtc-calib-version-one : OneAnswer (λ κs z e. z) rtc-calib-version.Post
 rtc-calib-version-one κs a z z′ e e′ p q = p ∙ sym q
-
-pub rtc-calib-cal-mv-one : OneAnswer (λ κs z e. z) rtc-calib-cal-mv.Post
-rtc-calib-cal-mv-one κs a z z′ e e′ p q = p ∙ sym q
 
 pub flash-encryption-one : OneAnswer (λ κs z e. z) flash-encryption.Post
 flash-encryption-one κs a z z′ e e′ p q = p ∙ sym q

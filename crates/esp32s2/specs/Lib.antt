@@ -1,3 +1,2 @@
 pub mod Encryption
-pub mod Reference
 pub mod Version

@@ -1,9 +1,9 @@
 // data/calls: calls on dumps with their maps, and their answers.
 use esp32s2::encryption;
 use esp32s2::encryption::FlashEncryption;
-use esp32s2::reference;
 use esp32s2::version;
 use esp32s2::version::Version;
+use references::s2;
 use replay::answer;
 use replay::answer::Answer;
 use replay::bytes;
@@ -59,7 +59,7 @@ fn call_answer(dump: &[u32], map: &[u8], case: &[u8]) -> Answer {
         SKIPPED => answer::reading(reading::rtc_calib_reading_skipped(version, unit, atten, param)),
         INIT_CODE => answer::code(code::rtc_calib_init_code(dump, map, unit, atten)),
         CAL_CODE => answer::code(code::rtc_calib_cal_code(dump, map, unit, atten)),
-        _ => answer::voltage(reference::rtc_calib_cal_mv(unit, atten)),
+        _ => answer::voltage(s2::rtc_calib_cal_mv(unit, atten)),
     }
 }
 

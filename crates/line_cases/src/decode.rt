@@ -1,6 +1,7 @@
 // data/decode: dumps with their maps, and the line records that are decoded of them.
 use esp32::decode;
-use esp32::decode::Decoded;
+use line_record::decoded::Decoded;
+use line_record::decoded::number_of;
 use line_record::record::LineRecord;
 use replay::bytes;
 use terms::refusal;
@@ -17,8 +18,7 @@ fn same_record(got: LineRecord, case: &[u8]) -> bool {
 // Whether a decoding is refused as the case says, with its number, and has zeros for a record.
 fn same_refusal(decoded: Decoded, case: &[u8]) -> bool {
     let none = [0u8; 11];
-    decode::number_of(decoded) == bytes::number8(case, 52)
-        && check::same(bytes::part(case, 53, 11), &none)
+    number_of(decoded) == bytes::number8(case, 52) && check::same(bytes::part(case, 53, 11), &none)
 }
 
 // Whether a record is decoded as the case says, or refused.

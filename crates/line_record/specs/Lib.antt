@@ -1,2 +1,3 @@
+pub mod Decoded
 pub mod Record
 pub mod When

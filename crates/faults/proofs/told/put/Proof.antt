@@ -1,5 +1,5 @@
 -- `faults::put` meets its contract: where there is room, a word that is put is written. Assumes nothing.
-use Rattle.text.proofs.Rooms.{room-fits}
+use Rattle.words.proofs.Rooms.{room-fits}
 use borrow.Author.Needs.{needs}
 use Rattle.faults.proofs.told.put.Statement.{statement}
 use Rattle.faults.proofs.told.put.Tie as tie

@@ -1,7 +1,7 @@
 -- `faults::put_end` meets its contract: a line feed for no number, else the number between two words. Assumes nothing.
 use borrow.Author.Tests.{eq-eqb, ne-eqb}
 use Rattle.terms.proofs.Puts.{put-more}
-use Rattle.text.proofs.Rooms.{room-fits}
+use Rattle.words.proofs.Rooms.{room-fits}
 use borrow.Author.Needs.{needs}
 use Rattle.faults.proofs.told.put_end.Statement.{statement}
 use Rattle.faults.proofs.told.put_end.Tie as tie

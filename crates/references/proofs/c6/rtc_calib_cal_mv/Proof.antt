@@ -1,0 +1,40 @@
+-- `references::c6::rtc_calib_cal_mv` meets its contract: the refusal's number says which case the answer is. Assumes nothing.
+use mathlib.Core.Path.{sym, _∙_}
+use borrow.Author.Needs.{needs}
+use Rattle.terms.proofs.Refusals.{answered-good, answered-refused, unit-inside}
+use Rattle.terms.specs.declared.voltage.Voltage.the-variants.{Refused}
+use Rattle.references.specs.C6.{calMvOf}
+use Rattle.references.proofs.c6.rtc_calib_cal_mv.Statement.{statement}
+use Rattle.references.proofs.c6.rtc_calib_cal_mv.Tie as tie
+
+unit-refusal-requires : tie.Need-unit-refusal-requires
+unit-refusal-requires c κs = search needs
+
+returns : tie.Need-returns
+unfolding calMvOf
+returns c = answered-refused _ _ Refused (c .before .unit-refusal .ensures) (c .if1 .taken)
+
+rtc-calib-version-requires : tie.Need-rtc-calib-version-requires
+rtc-calib-version-requires c κs = search needs
+
+input-vout-mv-requires : tie.Need-input-vout-mv-requires
+input-vout-mv-requires c κs =
+    let p = c .before in
+    unit-inside _ _ (sym (p .before .unit-refusal .ensures) ∙ p .if1 .left) .1
+
+returns-2 : tie.Need-returns-2
+unfolding calMvOf
+returns-2 c =
+    let p = c .before .before in
+    answered-good _ _ Refused (sym (p .before .unit-refusal .ensures) ∙ p .if1 .left)
+    (rw (c .input-vout-mv .ensures, c .before .rtc-calib-version .ensures))
+
+pub rtc-calib-cal-mv-spec : {M : Type 1} → statement M
+rtc-calib-cal-mv-spec =
+    tie.close
+    (tie.spec
+    unit-refusal-requires
+    returns
+    rtc-calib-version-requires
+    input-vout-mv-requires
+    returns-2)

@@ -1,0 +1,2 @@
+pub mod C6
+pub mod S2

@@ -1,0 +1,2 @@
+// Words and numbers, put into lent bytes.
+pub mod put;
