@@ -1,5 +1,5 @@
 -- Document 01, "S2, C6 and curves": the curve's correction of a line answer, with its refusals "Curve: 7, 14, 13".
--- In the crate: `adc_val` of `AdcCalCurve`, calibration/curve.rs.
+-- In esp-hal: `adc_val` of `AdcCalCurve`, calibration/curve.rs.
 use Prim.Native.Nat.{ℕ}
 use lib.Dec.{ltb}
 use Rattle.terms.specs.declared.chip.Chip.{Chip}

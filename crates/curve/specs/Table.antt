@@ -1,4 +1,4 @@
--- Document 01, "S2, C6 and curves": which table a chip's unit has. In the crate: `curves_coeffs` of `AdcHasCurveCal`,
+-- Document 01, "S2, C6 and curves": which table a chip's unit has. In esp-hal: `curves_coeffs` of `AdcHasCurveCal`,
 -- calibration/curve.rs.
 use mathlib.Core.Bool.{Bool, true, false, cond}
 use mathlib.Core.Option.{Option, none, some}

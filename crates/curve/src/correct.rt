@@ -1,4 +1,4 @@
-// The curve's correction of a line answer: `adc_val` of the crate's `AdcCalCurve`, calibration/curve.rs.
+// The curve's correction of a line answer: `adc_val` of esp-hal's `AdcCalCurve`, calibration/curve.rs.
 use crate::table::table_of;
 use curves::error::LARGEST_LINE;
 use curves::error::LAST_TABLE;

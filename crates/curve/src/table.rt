@@ -1,4 +1,4 @@
-// Which of the ten tables a chip's unit has: `curves_coeffs` of the crate's `AdcHasCurveCal`, calibration/curve.rs. A table goes by its
+// Which of the ten tables a chip's unit has: `curves_coeffs` of esp-hal's `AdcHasCurveCal`, calibration/curve.rs. A table goes by its
 // number in the flat table.
 use terms::c6_version::rtc_calib_version;
 use terms::chip::Chip;

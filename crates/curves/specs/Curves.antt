@@ -1,6 +1,6 @@
--- Document 01, "S2, C6 and curves": "109 coefficients in ten tables", here the decimals, as the crate's `coeff_tables!` of
+-- Document 01, "S2, C6 and curves": "109 coefficients in ten tables", here the decimals, as esp-hal's `coeff_tables!` of
 -- calibration/curve.rs has them: its tables in its order, each at 0, 2.5, 6 and 11 dB, the constant coefficient first. Above each
--- table: its name in the crate, and the ESP-IDF file, at its commit, that the crate cites for it.
+-- table: its name in esp-hal, and the ESP-IDF file, at its commit, that esp-hal cites for it.
 use mathlib.Core.List.{List, [], _∷_, map}
 use mathlib.Core.Option.{Option, none, some}
 use Prim.Native.Nat.{ℕ}
@@ -120,7 +120,7 @@ s3Coeffs2 =
       dB11 = plus 12247719764336924 16 ∷ minus 755717904943462 16 ∷ plus 1478791187119 16 ∷ minus 796725280 16 ∷ plus 150380 16 ∷ [];
     }
 
--- the tables in the crate's order
+-- the tables in esp-hal's order
 abbrev pub tables : List Table
 tables =
     c3Coeffs1 ∷ c5Coeffs1 ∷ c6Coeffs1 ∷ c61Coeffs1 ∷ c6Coeffs1V2

@@ -1,5 +1,5 @@
 -- Document 01, "S2, C6 and curves": a coefficient "is its decimal's nearest double (ties to even) times 2^52, cut toward zero, stated
--- over whole numbers". In the crate: `($val as f64 * COEFF_MUL as f64) as CurveCoeff` of calibration/curve.rs.
+-- over whole numbers". In esp-hal: `($val as f64 * COEFF_MUL as f64) as CurveCoeff` of calibration/curve.rs.
 use mathlib.Core.Bool.{cond}
 use Prim.Native.Nat.{ℕ, zero, suc, _+_, _*_, _/_, _%_, _^_}
 use lib.Dec.{leb, ltb}

@@ -1,5 +1,5 @@
 -- Document 01, "S2, C6 and curves": the error of a line answer by a curve, and the line answer less it.
--- In the crate: `adc_val` of `AdcCalCurve`, calibration/curve.rs.
+-- In esp-hal: `adc_val` of `AdcCalCurve`, calibration/curve.rs.
 use mathlib.Core.Bool.{_&&_, _||_, cond}
 use mathlib.Core.List.{List, [], _∷_, map}
 use Prim.Native.Nat.{ℕ, _^_}
@@ -11,7 +11,7 @@ use Rattle.curves.specs.Decimal.{Decimal, coefficient}
 use Rattle.curves.specs.Curves.{curveIn}
 use Rattle.curves.specs.Curves.{numbered}
 
--- the error polynomial by Horner's rule, as the crate has it: from the last coefficient to the first, `poly = poly * val + coeff`
+-- the error polynomial by Horner's rule, as esp-hal has it: from the last coefficient to the first, `poly = poly * val + coeff`
 unfoldable pub horner : List ℤ → ℕ → ℤ
 horner [] v = pos 0
 horner (c ∷ cs) v = horner cs v *ℤ pos v +ℤ c

@@ -1,4 +1,4 @@
-// The error of a line answer by a curve, and the line answer less it: `adc_val` of the crate's `AdcCalCurve`, calibration/curve.rs. A table
+// The error of a line answer by a curve, and the line answer less it: `adc_val` of esp-hal's `AdcCalCurve`, calibration/curve.rs. A table
 // goes by its number in the flat table.
 use crate::polynomial::poly_at;
 ghost use mathlib.Core.Path.{_≡_};

@@ -1,4 +1,4 @@
-// The crate's ten tables of coefficients as one flat table: `coeff_tables!` of calibration/curve.rs. `polynomial` has each curve's start in
+// esp-hal's ten tables of coefficients as one flat table: `coeff_tables!` of calibration/curve.rs. `polynomial` has each curve's start in
 // it and its length.
 ghost use mathlib.Core.Path.{_≡_};
 ghost use Rattle.curves.specs.Flat.{flat};

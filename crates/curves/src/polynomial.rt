@@ -1,4 +1,4 @@
-// The error polynomial of a curve: `adc_val` of the crate's `AdcCalCurve`, calibration/curve.rs. The curve of table t at attenuation a is
+// The error polynomial of a curve: `adc_val` of esp-hal's `AdcCalCurve`, calibration/curve.rs. The curve of table t at attenuation a is
 // curve 4 t + a of the flat table.
 use crate::flat::coeffs;
 ghost use mathlib.Core.Path.{_≡_};

@@ -1,4 +1,4 @@
-// data/fields and data/bytes: fields of a dump, with what the crate reads there.
+// data/fields and data/bytes: fields of a dump, with what esp-hal reads there.
 use efuse::field;
 use efuse::field::EfuseField;
 use efuse::field::Read;

@@ -1,5 +1,5 @@
 -- Document 01, "ESP32 line rules": a and b, by two points or by Vref (in `vref`), with refusal 9.
--- In the crate: `characterize_using_two_point` of calibration/line/esp32.rs, which cites ESP-IDF's
+-- In esp-hal: `characterize_using_two_point` of calibration/line/esp32.rs, which cites ESP-IDF's
 -- components/esp_adc/esp32/adc_cali_line_fitting.c, line 155.
 use mathlib.Core.List.{List, [], _∷_}
 use Prim.Native.Nat.{ℕ, _+_, _*_, _-_, _/_}

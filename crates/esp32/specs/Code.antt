@@ -1,4 +1,4 @@
--- Document 01, "ESP32 line rules": the signed codes and what they stand for. In the crate: `decode_bits`, `read_efuse_vref`,
+-- Document 01, "ESP32 line rules": the signed codes and what they stand for. In esp-hal: `decode_bits`, `read_efuse_vref`,
 -- `read_efuse_tp_low` and `read_efuse_tp_high` of calibration/line/esp32.rs, which cites ESP-IDF's
 -- components/esp_adc/esp32/adc_cali_line_fitting.c, line 155.
 use mathlib.Core.Bool.{cond}

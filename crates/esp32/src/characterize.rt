@@ -119,6 +119,6 @@ pub(crate) fn characterize(unit: u8, atten: u8, vref: u32, source: Source) -> Co
                 code::efuse_tp_low(unit, low),
             )
         }
-        Source::Vref => vref_line(vref as u16, unit, atten),
+        Source::Vref => vref_line(unit, atten, vref as u16),
     }
 }

@@ -1,4 +1,4 @@
-// The signed codes: Vref's in sign and magnitude, two-point codes in two's complement but for one pattern. In the crate:
+// The signed codes: Vref's in sign and magnitude, two-point codes in two's complement but for one pattern. In esp-hal:
 // `decode_bits`.
 ghost use mathlib.Core.Path.{_≡_};
 ghost use Prim.Native.Nat.{_-_, _^_, _≤_, _<_};

@@ -1,4 +1,4 @@
-// Decoding: the line record of a unit at an attenuation, from a dump and its map. In the crate: `new_cal`.
+// Decoding: the line record of a unit at an attenuation, from a dump and its map. In esp-hal: `new_cal`.
 use crate::characterize;
 use crate::characterize::Source;
 use crate::code;
@@ -38,7 +38,7 @@ pub(crate) struct Found {
     pub(crate) line: Coefficients,
 }
 
-// Where a unit's a and b come from. In the crate: `check_efuse_tp`.
+// Where a unit's a and b come from. In esp-hal: `check_efuse_tp`.
 fn source(dump: &[u32], map: &[u8], unit: u8) -> Source
     requires { ⌜ fieldsRefusal eight Esp32 (now dump) (now map) ≡ 0 ⌝ }
     ensures { λ r. ⌜ r ≡ sourceOf (now (dump .entry)) (now (map .entry)) unit ⌝ }

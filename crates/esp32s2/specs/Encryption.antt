@@ -1,4 +1,4 @@
--- Document 01, "S2, C6 and curves": the S2's flash encryption. In the crate: `flash_encryption` of efuse/esp32s2/mod.rs. Its refusals:
+-- Document 01, "S2, C6 and curves": the S2's flash encryption. In esp-hal: `flash_encryption` of efuse/esp32s2/mod.rs. Its refusals:
 -- 1, those of the map.
 use mathlib.Core.Bool.{Bool, false}
 use mathlib.Core.List.{List}

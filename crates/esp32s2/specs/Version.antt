@@ -1,4 +1,4 @@
--- Document 01, "S2, C6 and curves": the version of the S2's calibration. In the crate: `rtc_calib_version` of efuse/esp32s2/mod.rs, from
+-- Document 01, "S2, C6 and curves": the version of the S2's calibration. In esp-hal: `rtc_calib_version` of efuse/esp32s2/mod.rs, from
 -- ESP-IDF's components/efuse/esp32s2/esp_efuse_rtc_table.c, line 92. Its refusals: 1, those of the map.
 use mathlib.Core.List.{List}
 use Prim.Native.Nat.{ℕ}

@@ -1,5 +1,5 @@
 -- Document 01, "ESP32 line rules": line, blend and lookup; what a record gives at a count, with the refusals of "Converting: 10, then 8".
--- In the crate: `calculate_voltage_linear`, `interpolate_two_points` and `adc_val` of calibration/line/esp32.rs, whose source is
+-- In esp-hal: `calculate_voltage_linear`, `interpolate_two_points` and `adc_val` of calibration/line/esp32.rs, whose source is
 -- ESP-IDF's components/esp_adc/esp32/adc_cali_line_fitting.c, from line 155 on.
 use mathlib.Core.Bool.{Bool, cond, _&&_}
 use Prim.Native.Nat.{ℕ, _+_, _*_, _-_, _/_}

@@ -1,4 +1,4 @@
-// Converting a count to millivolts. In the crate: `adc_val`.
+// Converting a count to millivolts. In esp-hal: `adc_val`.
 use crate::lookup::LUT_LOW_THRESH;
 use crate::lookup::calculate_voltage_lut;
 use line_record::record::LineRecord;

@@ -1,4 +1,4 @@
-// The lookup: voltages from count 2880 on, between points that stand 64 counts apart. In the crate: `calculate_voltage_lut`.
+// The lookup: voltages from count 2880 on, between points that stand 64 counts apart. In esp-hal: `calculate_voltage_lut`.
 use line_record::record::LineRecord;
 use line_record::record::record_refusal;
 use lut::row::lut_row;

@@ -1,5 +1,5 @@
 -- Document 01, "ESP32 line rules": a record handed in, with its refusal 10; and the record that decoding makes.
--- In the crate: `AdcCalLine` of calibration/line/esp32.rs.
+-- In esp-hal: `AdcCalLine` of calibration/line/esp32.rs.
 use mathlib.Core.Bool.{Bool, _||_}
 use Prim.Native.Nat.{ℕ}
 use lib.Dec.{ltb, eqb}

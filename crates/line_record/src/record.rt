@@ -1,4 +1,4 @@
-// The line record: what converting and filling go by. In the crate: `AdcCalLine`.
+// The line record: what converting and filling go by. In esp-hal: `AdcCalLine`.
 use terms::refusal;
 use terms::refusal::Outcome;
 ghost use mathlib.Core.Path.{_≡_};

@@ -1,4 +1,4 @@
--- The points of the lookup, without signs. The tables' rules are computed tests; from them a point is the crate's signed sum for
+-- The points of the lookup, without signs. The tables' rules are computed tests; from them a point is esp-hal's signed sum for
 -- every Vref of a record, and points rise: they are linear in Vref, so what is ordered at 995 and at 1205 is ordered between.
 -- Assumes nothing.
 use mathlib.Core.Path.{_≡_, refl, _∙_, ap}
@@ -80,7 +80,7 @@ module _ (unit v k : ℕ) where
     pub top : point v low high ≤ 642545
     pub is : point v low high ≡ pointAt unit v k
 
-  -- the crate's sum, with what it takes away on the left
+  -- esp-hal's sum, with what it takes away on the left
   pub point-is : k < 20 → pointAt unit v k + (v * lowAt unit k + 1000 * highAt unit k) ≡ 1200 * lowAt unit k + v * highAt unit k
   unfolding pointAt
   point-is h =

@@ -1,4 +1,4 @@
--- The lookup's numerator is the crate's signed sum regrouped: a mean of the two points around the count, weighed by its place between
+-- The lookup's numerator is esp-hal's signed sum regrouped: a mean of the two points around the count, weighed by its place between
 -- them. So it is never negative, it is small, and from one point to the next it grows by one step a count. Assumes nothing.
 use mathlib.Core.Path.{_≡_, refl, sym, _∙_, ap}
 use Prim.Native.Nat.{ℕ, zero, suc, _+_, _*_, _-_, _/_, _%_, _≤_, min}
@@ -26,7 +26,7 @@ mean-along p q y k h hy =
     let e : 64 - y ≡ w + k = omega arith in
     rw e (omega (arith, mul-sub k q p, mul-le-mul-left k h))
 
--- the crate's four terms
+-- esp-hal's four terms
 sum-of : (q11 q12 q21 q22 v y2 y1 here there : ℕ)
     → here + (v * q11 + 1000 * q21) ≡ 1200 * q11 + v * q21
     → there + (v * q12 + 1000 * q22) ≡ 1200 * q12 + v * q22
@@ -61,7 +61,7 @@ module _ (unit v : ℕ) where
   abbrev pt : ℕ → ℕ
   pt k = pointAt unit v k
 
-  -- at a count that the crate finds in step i, or at its end
+  -- at a count that esp-hal finds in step i, or at its end
   at-step : (i y raw : ℕ) → i ≤ 18 → y ≤ 64 → raw ≡ 2880 + 64 * i + y → min ((raw - 2880) / 64) 18 ≡ i
       → numeratorAt unit v raw ≡ pos (mean (pt i) (pt (i + 1)) y)
   unfolding numeratorAt

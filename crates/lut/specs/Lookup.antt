@@ -1,12 +1,12 @@
 -- Document 01, "ESP32 line rules": "Lookup and its final division by 12800 with 6400 added .. as in `calculate_voltage_lut`".
--- In the crate: that function of calibration/line/esp32.rs; its source is ESP-IDF's components/esp_adc/esp32/adc_cali_line_fitting.c,
+-- In esp-hal: that function of calibration/line/esp32.rs; its source is ESP-IDF's components/esp_adc/esp32/adc_cali_line_fitting.c,
 -- from line 155 on.
 use Prim.Native.Nat.{ℕ, _+_, _*_, _-_, _/_, min}
 use lib.IntN.{ℤ, pos, natAbs, _+ℤ_, _-ℤ_, _*ℤ_}
 use lib.Signed.{quotZ}
 use Rattle.lut.specs.Row.{lowAt, highAt}
 
--- the lookup's numerator for a unit, a Vref and a count, before 6400 is added: the crate's sum, with its names, signs and order
+-- the lookup's numerator for a unit, a Vref and a count, before 6400 is added: esp-hal's sum, with its names, signs and order
 unfoldable pub numeratorAt : ℕ → ℕ → ℕ → ℤ
 numeratorAt unit vref raw =
     let i : ℕ = min ((raw - 2880) / 64) 18 in

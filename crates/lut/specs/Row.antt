@@ -1,4 +1,4 @@
--- Document 01, "ESP32 line rules": the lookup's tables, those beside `calculate_voltage_lut` of the crate's calibration/line/esp32.rs;
+-- Document 01, "ESP32 line rules": the lookup's tables, those beside `calculate_voltage_lut` of esp-hal's calibration/line/esp32.rs;
 -- its source is ESP-IDF's components/esp_adc/esp32/adc_cali_line_fitting.c, from line 155 on.
 use mathlib.Core.List.{List, [], _∷_, _++_}
 use Prim.Native.Nat.{ℕ}
@@ -6,7 +6,7 @@ use lib.ListN.{getD}
 use Rattle.terms.specs.Unit.{entryOf}
 use Rattle.lut.specs.declared.row.Row.{Row}
 
--- the crate's four tables: millivolts at the counts 2880, 2944, .., 64 apart, at a Vref of 1000 (low) and of 1200 (high)
+-- esp-hal's four tables: millivolts at the counts 2880, 2944, .., 64 apart, at a Vref of 1000 (low) and of 1200 (high)
 abbrev pub lutAdc1Low : List ℕ
 lutAdc1Low =
     2240 ∷ 2297 ∷ 2352 ∷ 2405 ∷ 2457 ∷ 2512 ∷ 2564 ∷ 2616 ∷ 2664 ∷ 2709

@@ -1,11 +1,11 @@
-// The tables of the lookup. In the crate: those beside `calculate_voltage_lut`.
+// The tables of the lookup. In esp-hal: those beside `calculate_voltage_lut`.
 ghost use mathlib.Core.Path.{_≡_};
 ghost use Rattle.lut.specs.Row.{rowOf};
 
 // A row of the tables: millivolts at a Vref of 1000 and of 1200.
 pub struct Row(pub u32, pub u32);
 
-// Row k of the crate's four tables, a row for each point: those of unit 0, then those of unit 1; zeros past them. As a `match` they are
+// Row k of esp-hal's four tables, a row for each point: those of unit 0, then those of unit 1; zeros past them. As a `match` they are
 // constant data, while a constant array would be made anew at each use.
 pub fn lut_row(k: u32) -> Row
     ensures { λ r. ⌜ r ≡ rowOf k ⌝ }

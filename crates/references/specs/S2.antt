@@ -1,4 +1,4 @@
--- Document 01, "S2, C6 and curves": the S2's reference voltages. In the crate: `rtc_calib_cal_mv` of efuse/esp32s2/mod.rs. Its refusal: 7.
+-- Document 01, "S2, C6 and curves": the S2's reference voltages. In esp-hal: `rtc_calib_cal_mv` of efuse/esp32s2/mod.rs. Its refusal: 7.
 use mathlib.Core.List.{[], _∷_}
 use Prim.Native.Nat.{ℕ}
 use lib.ListN.{getD}

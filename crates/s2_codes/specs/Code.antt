@@ -1,4 +1,4 @@
--- Document 01, "S2, C6 and curves": the S2's initial and reference codes. In the crate: `rtc_calib_init_code` and `rtc_calib_cal_code`
+-- Document 01, "S2, C6 and curves": the S2's initial and reference codes. In esp-hal: `rtc_calib_init_code` and `rtc_calib_cal_code`
 -- of efuse/esp32s2/mod.rs. Their refusals: 1, 7, those of the map, 12.
 use mathlib.Core.Bool.{false, not}
 use mathlib.Core.List.{List}

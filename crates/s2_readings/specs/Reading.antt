@@ -1,4 +1,4 @@
--- Document 01, "S2, C6 and curves": the readings of the S2's table. In the crate: `rtc_calib_parsed` and `rtc_calib_reading` of
+-- Document 01, "S2, C6 and curves": the readings of the S2's table. In esp-hal: `rtc_calib_parsed` and `rtc_calib_reading` of
 -- efuse/esp32s2/mod.rs, from ESP-IDF's components/efuse/esp32s2/esp_efuse_rtc_table.c, line 145. Their refusals: 1, 7.
 use mathlib.Core.Bool.{Bool, true, false, cond}
 use mathlib.Core.List.{List, []}

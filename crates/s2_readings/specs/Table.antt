@@ -1,4 +1,4 @@
--- Document 01, "S2, C6 and curves": the S2's calibration table. In the crate: `RTC_CALIB_MAP` of efuse/esp32s2/mod.rs, from ESP-IDF's
+-- Document 01, "S2, C6 and curves": the S2's calibration table. In esp-hal: `RTC_CALIB_MAP` of efuse/esp32s2/mod.rs, from ESP-IDF's
 -- components/efuse/esp32s2/esp_efuse_rtc_table.c, lines 48 to 89.
 use mathlib.Core.Bool.{cond}
 use mathlib.Core.List.{List, [], _∷_}

@@ -1,4 +1,4 @@
--- Document 01, "S2, C6 and curves": the tags of the S2's table. In the crate: `rtc_calib_tag` of efuse/esp32s2/mod.rs.
+-- Document 01, "S2, C6 and curves": the tags of the S2's table. In esp-hal: `rtc_calib_tag` of efuse/esp32s2/mod.rs.
 use mathlib.Core.Bool.{cond}
 use Prim.Native.Nat.{ℕ, _+_, _*_}
 use lib.Dec.{eqb}

@@ -1,5 +1,5 @@
 -- Document 01, "ESP32 line rules": the fill, with the refusals of "Filling: 10, then 11".
--- It is this build's own: the crate converts one count at a time.
+-- It is this build's own: esp-hal converts one count at a time.
 use mathlib.Core.List.{List}
 use Prim.Native.Nat.{ℕ, _+_}
 use lib.ListN.{length}

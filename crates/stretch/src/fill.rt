@@ -1,4 +1,4 @@
-// The walking fill: the answers of a stretch of counts, by additions. This build's own; the crate converts one count at a time.
+// The walking fill: the answers of a stretch of counts, by additions. This build's own; esp-hal converts one count at a time.
 // A stretch is filled segment by segment, each in one loop: the line's counts, then from 2880 on those from each point to the next.
 // What moves is the sum that the millivolts are a quotient of, by one addition a count (`ramp`); the blend alone makes products.
 use crate::ramp::blend_ramps;

@@ -1,4 +1,4 @@
--- Document 01, "S2, C6 and curves": the version of the C6's calibration. In the crate: `rtc_calib_version` of efuse/esp32c6/mod.rs,
+-- Document 01, "S2, C6 and curves": the version of the C6's calibration. In esp-hal: `rtc_calib_version` of efuse/esp32c6/mod.rs,
 -- from ESP-IDF's components/efuse/esp32c6/esp_efuse_rtc_calib.c, line 20.
 use mathlib.Core.Bool.{cond}
 use Prim.Native.Nat.{ℕ}

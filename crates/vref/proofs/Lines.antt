@@ -35,13 +35,13 @@ module _ (unit atten : ℕ) where
         (div-le-of-le-mul 4096 (omega (arith, mul-le-mul v (most .0))), omega arith)
 
     -- which case it is
-    pub line-good : unitRefusal unit atten ≡ 0 → vrefLine unit atten vref ≡ coefficientsFor vref unit atten
+    pub line-good : unitRefusal unit atten ≡ 0 → vrefLine unit atten vref ≡ coefficientsFor unit atten vref
     unfolding coefficientsFor
     line-good e = sym (byNumber-good _ _ _ e)
 
-    pub line-none : (unitRefusal unit atten ≡ 0 → ⊥) → record { a = 0; b = 0 } ≡ coefficientsFor vref unit atten
+    pub line-none : (unitRefusal unit atten ≡ 0 → ⊥) → record { a = 0; b = 0 } ≡ coefficientsFor unit atten vref
     unfolding coefficientsFor
     line-none some = sym (byNumber-refused {A = Coefficients} _ _ _ some)
 
-    pub line-is : unit ≤ 1 → atten ≤ 3 → coefficientsFor vref unit atten ≡ vrefLine unit atten vref
+    pub line-is : unit ≤ 1 → atten ≤ 3 → coefficientsFor unit atten vref ≡ vrefLine unit atten vref
     line-is u h = sym (line-good (unit-good unit atten u h))

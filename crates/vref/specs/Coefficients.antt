@@ -1,4 +1,4 @@
--- Document 01, "ESP32 line rules": a and b by Vref. In the crate: `characterize_using_vref` of calibration/line/esp32.rs, which cites
+-- Document 01, "ESP32 line rules": a and b by Vref. In esp-hal: `characterize_using_vref` of calibration/line/esp32.rs, which cites
 -- ESP-IDF's components/esp_adc/esp32/adc_cali_line_fitting.c, line 155.
 use mathlib.Core.List.{List, [], _∷_}
 use Prim.Native.Nat.{ℕ, _*_, _/_}
@@ -31,5 +31,5 @@ vrefLine unit atten vref = record { a = vref * vrefScale unit atten / 4096; b = 
 
 -- for a unit and an attenuation that there are; else zeros
 unfoldable pub coefficientsFor : ℕ → ℕ → ℕ → Coefficients
-coefficientsFor vref unit atten =
+coefficientsFor unit atten vref =
     byNumber (unitRefusal unit atten) (vrefLine unit atten vref) (record { a = 0; b = 0 })

@@ -1,4 +1,4 @@
-// a and b of a line by Vref. In the crate: `characterize_using_vref`.
+// a and b of a line by Vref. In esp-hal: `characterize_using_vref`.
 use terms::refusal;
 use terms::refusal::unit_refusal;
 ghost use mathlib.Core.Path.{_≡_};
@@ -39,8 +39,8 @@ fn vref_atten(k: u8) -> Atten
 }
 
 // a and b from Vref in millivolts; zeros where there is no such unit or attenuation.
-pub fn vref_line(vref: u16, unit: u8, atten: u8) -> Coefficients
-    ensures { λ r. ⌜ r ≡ coefficientsFor vref unit atten ⌝ }
+pub fn vref_line(unit: u8, atten: u8, vref: u16) -> Coefficients
+    ensures { λ r. ⌜ r ≡ coefficientsFor unit atten vref ⌝ }
 {
     if unit_refusal(unit, atten) != refusal::NONE {
         return Coefficients { a: 0, b: 0 };
