@@ -1,4 +1,5 @@
-// The boards' dumps and their map, by the files' names. A missing file counts as empty; a file that can't be read is told with the system's reason.
+// The boards' dumps and their map, by the files' names. A missing file counts as empty; one that can't be read is told with the system's
+// reason.
 use dump_file::load::load_dump;
 use faults::fault::File;
 use faults::told::put_fault;
