@@ -7,7 +7,8 @@ use native.Mathlib.Numerals.{add-one}
 use native.Mathlib.Omega.{arith}
 use lib.ListN.{length, take, drop, set, getD, length-append, take-append-drop, length-set}
 use lib.Seq.{set-split, take-at, drop-at, drop-drop, length-take-le, take-suc}
-use Rattle.terms.specs.Put.{written, Put}
+use Rattle.terms.specs.Table.{written}
+use Rattle.terms.specs.Put.{Put}
 
 -- what comes after the text, by its place in the whole list
 written-flat : (before : List ℕ) (at : ℕ) (t : List ℕ) → written before at t ≡ take at before ++ (t ++ drop (at + length t) before)
