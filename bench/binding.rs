@@ -23,7 +23,7 @@ fn row<A: Clone + PartialEq + Default>(work: &str, answers: usize, ways: [Way<A>
 
 impl Bench {
     fn binding_reads(&self) -> Row {
-        let (dump, fields) = (mixed_dump(), fields(32));
+        let (dump, fields) = (mixed_dump(0), fields(32));
         let ours: Way<u32> = &|out| {
             for (out, field) in out.iter_mut().zip(&fields) {
                 *out = field.read_u32(&dump).expect(GOOD);

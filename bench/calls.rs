@@ -50,10 +50,11 @@ pub struct Calls {
     pub convert: Convert,
     pub fill: Fill,
     pub correct: Correct,
+    load: Load,
 }
 
 impl Calls {
-    fn of(object: &Object) -> Self {
+    fn of(object: &Object, load: Load) -> Self {
         Self {
             read_field_u8: object.find("skv_read_field_u8"),
             read_field_u16: object.find("skv_read_field_u16"),
@@ -62,11 +63,18 @@ impl Calls {
             convert: object.find("skv_convert"),
             fill: object.find("skv_fill"),
             correct: object.find("skv_correct"),
+            load,
         }
     }
 
-    pub fn ours(path: &str) -> Self {
-        Self::of(&Object::open(path))
+    /// Ours need no loading; so that they can be timed with it, they have that of a build of esp-hal.
+    pub fn ours(path: &str, other: &Crate) -> Self {
+        Self::of(&Object::open(path), other.calls.load)
+    }
+
+    /// Makes the words esp-hal's dump, and the number its C6's minor block version.
+    pub fn load(&self, dump: &[u32; 88], minor: u8) {
+        (self.load)(dump.as_ptr(), minor);
     }
 }
 
@@ -76,19 +84,13 @@ pub struct Crate {
     /// The same calls with our two tests in front of `convert`.
     pub tested: Calls,
     pub new_cal: NewCal,
-    load: Load,
 }
 
 impl Crate {
     pub fn open(path: &str) -> Self {
         let object = Object::open(path);
-        let calls = Calls::of(&object);
+        let calls = Calls::of(&object, object.find("load"));
         let tested = Calls { convert: object.find("tested_convert"), ..calls };
-        Self { calls, tested, new_cal: object.find("new_cal"), load: object.find("load") }
-    }
-
-    /// Makes the words esp-hal's dump, and the number its C6's minor block version.
-    pub fn load(&self, dump: &[u32; 88], minor: u8) {
-        (self.load)(dump.as_ptr(), minor);
+        Self { calls, tested, new_cal: object.find("new_cal") }
     }
 }

@@ -15,9 +15,8 @@ fn told(held: &Held) -> String {
 }
 
 fn line(row: &Row) -> String {
-    let checked = row.checked.as_ref().map_or("| |".to_string(), told);
-    let whole = row.whole.as_ref().map_or(String::new(), |ratio| format!("{:.2}", ratio.middle));
-    format!("| {} | {} | {:.2} | {} | {checked} | {whole} |", row.work, row.against, row.nanoseconds, told(&row.release))
+    let builds: Vec<_> = (0..3).map(|k| row.held.get(k).map_or("| |".to_string(), told)).collect();
+    format!("| {} | {} | {:.2} | {} |", row.work, row.against, row.nanoseconds, builds.join(" | "))
 }
 
 fn main() {
@@ -25,11 +24,11 @@ fn main() {
     let [ours, release, checked, whole] = &paths[..] else { panic!("usage: main OURS RELEASE CHECKED WHOLE") };
     let rows = Bench::open(ours, release, checked, whole).rows();
     println!(
-        "| work | against | ours, ns | ratio | middle half | bar | with overflow checks | middle half | bar | with fat LTO |"
+        "| work | against | ours, ns | ratio | middle half | bar | with overflow checks | middle half | bar | with fat LTO \
+         | middle half | bar |"
     );
-    println!("|---|---|---|---|---|---|---|---|---|---|");
+    println!("|---|---|---|---|---|---|---|---|---|---|---|---|");
     rows.iter().for_each(|row| println!("{}", line(row)));
-    let held = rows.iter().flat_map(|row| [Some(&row.release), row.checked.as_ref()]).flatten();
-    let reached: Vec<_> = held.filter_map(Held::reached).collect();
+    let reached: Vec<_> = rows.iter().flat_map(|row| &row.held).filter_map(Held::reached).collect();
     println!("\n{} bars, {} not reached", reached.len(), reached.iter().filter(|reached| !**reached).count());
 }

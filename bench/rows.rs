@@ -5,7 +5,7 @@ use suongkivat::raw::{SkvDecoded, SkvOutcome, SkvRead, SkvRefusal, SkvVoltage};
 use suongkivat::{Count, Field, LineRecord, Millivolt, Unit};
 
 use crate::calls::{Calls, Crate, ReadField};
-use crate::timing::{contest, Outcome, Ratio, Way};
+use crate::timing::{contest, Outcome, Ratio, Side, Way};
 
 pub const COUNTS: u16 = 4096;
 
@@ -14,12 +14,22 @@ const LOOKUP_FIRST: u16 = 2945;
 
 const STRETCH: usize = 64;
 
+/// Dumps that a bedside tablet loads.
+const DUMPS: u32 = 200;
+
 pub const DB11: u8 = 3;
+
+/// A C6 takes its second table.
+const MINOR: u8 = 2;
 
 /// The overflow-checked build is to be beaten.
 const BEATEN: f64 = 0.99;
 
+/// Bars against esp-hal's three builds: for release, the same with overflow checks, and for release with fat LTO.
+type Bars = [Option<f64>; 3];
+
 const NONE: SkvRefusal = SkvRefusal { number: 0 };
+const NO_READ: SkvRead = SkvRead { refusal: NONE, value: 0 };
 const NO_VOLTAGE: SkvVoltage = SkvVoltage { refusal: NONE, voltage: Millivolt(0) };
 const NO_RECORD: LineRecord = LineRecord { coeff_a: 0, coeff_b: 0, vref: 0, unit: Unit(0), use_lut: 0 };
 
@@ -40,10 +50,17 @@ pub struct Row {
     pub work: String,
     pub against: &'static str,
     pub nanoseconds: f64,
-    pub release: Held,
-    pub checked: Option<Held>,
-    /// Against the release build that is optimised as a whole, over the crates' borders.
-    pub whole: Option<Ratio>,
+    /// Against one other way, or against esp-hal's three builds in the order of their bars.
+    pub held: Vec<Held>,
+}
+
+impl Row {
+    fn new(work: String, against: &'static str, bars: &[Option<f64>], outcome: Outcome) -> Self {
+        let Outcome { nanoseconds, ratios } = outcome;
+        assert_eq!(ratios.len(), bars.len());
+        let held = ratios.into_iter().zip(bars).map(|(ratio, bar)| Held { ratio, bar: *bar }).collect();
+        Self { work, against, nanoseconds, held }
+    }
 }
 
 /// A work as each set of calls does it.
@@ -78,24 +95,34 @@ pub fn fields(width: u16) -> Vec<Field> {
     (0..1024).map(field).collect()
 }
 
-/// A dump of mixed bits.
-pub fn mixed_dump() -> [u32; 88] {
-    std::array::from_fn(|k| (k as u32 + 1).wrapping_mul(0x9E37_79B9))
+/// A dump of mixed bits; each number has its own.
+pub fn mixed_dump(number: u32) -> [u32; 88] {
+    std::array::from_fn(|k| (88 * number + k as u32 + 1).wrapping_mul(0x9E37_79B9))
+}
+
+/// The fields of a map's records.
+fn mapped(map: &[u8]) -> Vec<Field> {
+    let field = |record: &[u8]| Field {
+        block: record[1],
+        bit_start: u16::from_le_bytes([record[2], record[3]]),
+        bit_count: record[4].into(),
+    };
+    map.chunks_exact(8).map(field).collect()
 }
 
 /// A work of ours against another way to the same answers.
 pub fn one<A: Clone + PartialEq>(work: String, against: &'static str, bar: Option<f64>, blank: &[A], ways: [Way<A>; 2]) -> Row {
-    let Outcome { nanoseconds, mut ratios } = contest(&work, blank, ways[0], &[ways[1]]);
-    let release = Held { ratio: ratios.remove(0), bar };
-    Row { work, against, nanoseconds, release, checked: None, whole: None }
+    let outcome = contest(&work, blank, &ways.map(Side::whole));
+    Row::new(work, against, &[bar], outcome)
 }
 
 impl Bench {
     /// The four objects' calls, on the two boards of examples/day.
     pub fn open(ours: &str, release: &str, checked: &str, whole: &str) -> Self {
+        let release = Crate::open(release);
         Self {
-            ours: Calls::ours(ours),
-            release: Crate::open(release),
+            ours: Calls::ours(ours, &release),
+            release,
             checked: Crate::open(checked),
             whole: Crate::open(whole),
             field: dump("field.bin"),
@@ -104,33 +131,35 @@ impl Bench {
         }
     }
 
-    /// Makes a dump esp-hal's, in each build. A C6 takes its second table.
+    /// Makes a dump esp-hal's, in each build.
     fn load(&self, dump: &[u32; 88]) {
         for build in [&self.release, &self.checked, &self.whole] {
-            build.load(dump, 2);
+            build.calls.load(dump, MINOR);
         }
     }
 
-    /// A work against esp-hal's three builds; the bars are for the first two.
-    fn all<A: Clone + PartialEq>(&self, work: String, bars: [Option<f64>; 2], blank: &[A], how: Work<A>) -> Row {
-        let ours: Way<A> = &|out| how(&self.ours, out);
-        let release: Way<A> = &|out| how(&self.release.calls, out);
-        let checked: Way<A> = &|out| how(&self.checked.calls, out);
-        let whole: Way<A> = &|out| how(&self.whole.calls, out);
-        let Outcome { nanoseconds, mut ratios } = contest(&work, blank, ours, &[release, checked, whole]);
-        let whole = ratios.pop();
-        let mut held = ratios.into_iter().zip(bars).map(|(ratio, bar)| Held { ratio, bar });
-        let release = held.next().expect("esp-hal's");
-        Row { work, against: "esp-hal", nanoseconds, release, checked: held.next(), whole }
+    /// A work against esp-hal's three builds, without what doesn't count of it.
+    fn counted<A: Clone + PartialEq>(&self, work: String, bars: Bars, blank: &[A], how: Work<A>, uncounted: Work<A>) -> Row {
+        let calls = [&self.ours, &self.release.calls, &self.checked.calls, &self.whole.calls];
+        let ways = calls.map(|calls| move |out: &mut [A]| how(calls, out));
+        let rests = calls.map(|calls| move |out: &mut [A]| uncounted(calls, out));
+        let sides: Vec<_> = ways.iter().zip(&rests).map(|(way, rest)| Side { way: way as Way<A>, uncounted: rest }).collect();
+        let outcome = contest(&work, blank, &sides);
+        Row::new(work, "esp-hal", &bars, outcome)
+    }
+
+    /// A work that counts as a whole.
+    fn all<A: Clone + PartialEq>(&self, work: String, bars: Bars, blank: &[A], how: Work<A>) -> Row {
+        self.counted(work, bars, blank, how, &|_, _| ())
     }
 
     /// Fields of a dump of mixed bits.
-    fn read_field(&self, width: u16, read: fn(&Calls) -> ReadField) -> Row {
-        let dump = mixed_dump();
+    fn read_field(&self, width: u16, bar: Option<f64>, read: fn(&Calls) -> ReadField) -> Row {
+        let dump = mixed_dump(0);
         self.load(&dump);
         let fields = fields(width);
-        let blank = vec![SkvRead { refusal: NONE, value: 0 }; fields.len()];
-        self.all(format!("read a field, {width} bits"), [None, None], &blank, &|calls, out| {
+        let blank = vec![NO_READ; fields.len()];
+        self.all(format!("read a field, {width} bits"), [bar, None, None], &blank, &|calls, out| {
             let read = read(calls);
             for (out, field) in out.iter_mut().zip(&fields) {
                 *out = read(dump.as_ptr(), dump.len(), *field);
@@ -138,8 +167,27 @@ impl Bench {
         })
     }
 
+    /// The map's fields of one dump after the other. esp-hal reads from one memory, so each dump has to be put there first: every
+    /// side does it, and for none does it count.
+    fn mapped_fields(&self) -> Row {
+        let fields = mapped(&self.map);
+        let dumps: Vec<_> = (0..DUMPS).map(mixed_dump).collect();
+        let blank = vec![NO_READ; fields.len() * dumps.len()];
+        let loads: Work<SkvRead> = &|calls, _| dumps.iter().for_each(|dump| calls.load(dump, MINOR));
+        let how: Work<SkvRead> = &|calls, out| {
+            for (dump, out) in dumps.iter().zip(out.chunks_mut(fields.len())) {
+                calls.load(dump, MINOR);
+                for (out, field) in out.iter_mut().zip(&fields) {
+                    *out = (calls.read_field_u32)(dump.as_ptr(), dump.len(), *field);
+                }
+            }
+        };
+        let work = format!("read a map's {} fields, {DUMPS} dumps", fields.len());
+        self.counted(work, [Some(0.45), None, None], &blank, how, loads)
+    }
+
     /// Decoding each unit at each attenuation, by a map; and against esp-hal's alone, whose fields hold then what the map's did.
-    fn decode(&self, name: &str, dump: &[u32; 88]) -> [Row; 2] {
+    fn decode(&self, name: &str, dump: &[u32; 88], bars: Bars) -> [Row; 2] {
         self.load(dump);
         let map = &self.map;
         let blank = vec![SkvDecoded { refusal: NONE, record: NO_RECORD }; 512];
@@ -148,7 +196,7 @@ impl Bench {
                 *out = (calls.decode)(dump.as_ptr(), dump.len(), map.as_ptr(), map.len(), k / 4, k % 4);
             }
         };
-        let mapped = self.all(format!("decode, {name}"), [Some(0.9), Some(BEATEN)], &blank, how);
+        let mapped = self.all(format!("decode, {name}"), bars, &blank, how);
         let ours: Way<SkvDecoded> = &|out| how(&self.ours, out);
         let new_cal = self.release.new_cal;
         let fixed: Way<SkvDecoded> = &|out| {
@@ -177,7 +225,7 @@ impl Bench {
                 *out = (calls.convert)(record, Count(raw));
             }
         };
-        let plain = self.all(work.clone(), [Some(bar), Some(BEATEN)], &blank, how);
+        let plain = self.all(work.clone(), [Some(bar), Some(BEATEN), None], &blank, how);
         let ways: [Way<SkvVoltage>; 2] = [&|out| how(&self.ours, out), &|out| how(&self.release.tested, out)];
         [plain, one(work, "esp-hal, with our two tests", Some(tested_bar), &blank, ways)]
     }
@@ -193,7 +241,7 @@ impl Bench {
                 assert_eq!((calls.fill)(record, first, part.as_mut_ptr(), part.len()), SkvOutcome { refusal: NONE });
             }
         };
-        let plain = self.all(work.clone(), [Some(bar), Some(BEATEN)], &blank, how);
+        let plain = self.all(work.clone(), [Some(bar), Some(BEATEN), None], &blank, how);
         let mut table = blank.clone();
         how(&self.ours, &mut table);
         let copy: Way<u16> = &|out| {
@@ -208,9 +256,9 @@ impl Bench {
     /// A curve at every line answer; the table is selected in the call.
     fn correct(&self, name: &str, chip: u8, unit: u8, atten: u8) -> Row {
         let blank = vec![NO_VOLTAGE; usize::from(COUNTS)];
-        self.all(format!("curve, {name}"), [Some(1.35), None], &blank, &|calls, out| {
+        self.all(format!("curve, {name}"), [Some(1.35), None, None], &blank, &|calls, out| {
             for (mv, out) in (0..).zip(out) {
-                *out = (calls.correct)(chip, 2, unit, atten, Millivolt(mv));
+                *out = (calls.correct)(chip, MINOR, unit, atten, Millivolt(mv));
             }
         })
     }
@@ -234,12 +282,13 @@ impl Bench {
     pub fn rows(&self) -> Vec<Row> {
         let whole = usize::from(COUNTS);
         let mut rows = vec![
-            self.read_field(8, |calls| calls.read_field_u8),
-            self.read_field(16, |calls| calls.read_field_u16),
-            self.read_field(32, |calls| calls.read_field_u32),
+            self.read_field(8, None, |calls| calls.read_field_u8),
+            self.read_field(16, None, |calls| calls.read_field_u16),
+            self.read_field(32, Some(0.45), |calls| calls.read_field_u32),
+            self.mapped_fields(),
         ];
-        rows.extend(self.decode("two-point", &self.field));
-        rows.extend(self.decode("Vref", &self.reference));
+        rows.extend(self.decode("two-point", &self.field, [Some(0.75), Some(BEATEN), Some(0.95)]));
+        rows.extend(self.decode("Vref", &self.reference, [Some(0.9), Some(BEATEN), None]));
         rows.extend(self.convert("lookup, counts rising", true, 0, 1.25, 1.15));
         rows.extend(self.convert("lookup, counts 2945 and up", true, LOOKUP_FIRST, 1.25, 1.15));
         rows.extend(self.convert("no lookup", false, 0, 1.6, 1.25));

@@ -17,6 +17,26 @@ pub struct Ratio {
 /// A way to the answers, which are written into the lent list.
 pub type Way<'a, A> = &'a dyn Fn(&mut [A]);
 
+/// One side of a contest: its way, and what of it doesn't count. That is timed by itself in the same turn and taken off.
+pub struct Side<'a, A> {
+    pub way: Way<'a, A>,
+    pub uncounted: Way<'a, A>,
+}
+
+fn nothing<A>(_: &mut [A]) {}
+
+impl<'a, A> Side<'a, A> {
+    /// All of the way counts.
+    pub fn whole(way: Way<'a, A>) -> Self {
+        Self { way, uncounted: &nothing }
+    }
+
+    /// The time that counts, of a way that is repeated so often.
+    fn counted(&self, out: &mut [A], times: usize) -> f64 {
+        nanoseconds(self.way, out, times) - nanoseconds(self.uncounted, out, times)
+    }
+}
+
 /// What a contest showed: our time for one answer, and our time over that of each of the others.
 pub struct Outcome {
     pub nanoseconds: f64,
@@ -57,24 +77,23 @@ fn difference<A: PartialEq>(one: &[A], other: &[A]) -> Option<usize> {
     one.iter().zip(other).position(|(a, b)| a != b)
 }
 
-/// Holds every way to our answers, then times them in turns, each turn beginning with another way.
-pub fn contest<A: Clone + PartialEq>(work: &str, blank: &[A], ours: Way<A>, others: &[Way<A>]) -> Outcome {
-    let ways: Vec<_> = [ours].into_iter().chain(others.iter().copied()).collect();
+/// Holds every side to our answers, then times them in turns, each turn beginning with another side. The first side is ours.
+pub fn contest<A: Clone + PartialEq>(work: &str, blank: &[A], sides: &[Side<A>]) -> Outcome {
     let mut answers = blank.to_vec();
-    ours(&mut answers);
-    for other in others {
+    (sides[0].way)(&mut answers);
+    for other in &sides[1..] {
         let mut out = blank.to_vec();
-        other(&mut out);
+        (other.way)(&mut out);
         if let Some(place) = difference(&answers, &out) {
             panic!("{work}: answer {place} differs, nothing is measured");
         }
     }
-    let times = repeats(ours, &mut answers);
-    let mut taken = vec![Vec::with_capacity(TURNS); ways.len()];
+    let times = repeats(sides[0].way, &mut answers);
+    let mut taken = vec![Vec::with_capacity(TURNS); sides.len()];
     for turn in 0..TURNS {
-        for k in 0..ways.len() {
-            let which = (turn + k) % ways.len();
-            taken[which].push(nanoseconds(ways[which], &mut answers, times));
+        for k in 0..sides.len() {
+            let which = (turn + k) % sides.len();
+            taken[which].push(sides[which].counted(&mut answers, times));
         }
     }
     let ratio = |theirs: &Vec<f64>| {
