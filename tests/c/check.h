@@ -10,6 +10,7 @@ void check(int good, const char *file, int line, const char *what);
 #define IS(a, n, member, v) (CHECK((a).refusal.number == (n)), CHECK((a).member == (v)))
 
 void fields(void);
+void edges(void);
 void maps(void);
 void lines(void);
 void s2(void);

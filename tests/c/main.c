@@ -17,6 +17,7 @@ void check(int good, const char *file, int line, const char *what)
 int main(void)
 {
     fields();
+    edges();
     maps();
     lines();
     s2();

@@ -27,6 +27,14 @@ pub fn stops_at_word(dump: &[u32], field: Field) -> Told<u32> {
     if told.number == 0 { read(dump, Field { bit_count: in_word, ..field }) } else { told }
 }
 
+pub fn shift_by_32(dump: &[u32], field: Field) -> Told<u32> {
+    let read = PROVED.read_field_u32;
+    let told = read(dump, field);
+    let whole = field.bit_start % 32 == 0 && field.bit_count >= 32;
+    let next = read(dump, Field { bit_start: field.bit_start.saturating_add(32), bit_count: 32, ..field });
+    if told.number == 0 && whole { good(told.value | next.value) } else { told }
+}
+
 pub fn longer_dump(dump: &[u32], field: Field) -> Told<u32> {
     (PROVED.read_field_u8)(&dump[..dump.len().min(88)], field)
 }

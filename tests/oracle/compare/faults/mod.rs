@@ -37,6 +37,7 @@ faults! {
         "an empty field may start at 256": read_field_u16 = fields::empty_at_256,
         "5 is asked for before 4": read_field_u16 = fields::place_before_block,
         "a field stops at its word's edge": read_field_u32 = fields::stops_at_word,
+        "a whole word has the next one's bits too, by a shift of 32": read_field_u32 = fields::shift_by_32,
         "a longer dump is taken": read_field_u8 = fields::longer_dump,
         "a refusal carries a value": read_field_u8 = fields::refusal_with_value,
     }
