@@ -35,9 +35,12 @@ module _ (z : ℤ) (h : SFits w16 z) where
   pub wider-back : toZ w32 (ofZ w32 (toZ w16 (ofZ w16 z))) ≡ z
   wider-back = toZ-ofZ w32 _ wider-fits ∙ toZ-ofZ w16 z h
 
--- one, shifted by less than the width
+-- one, shifted by less than the width; in 32 bits
+pub one-shifted-in : (width s : ℕ) → s < width → (1 * 2 ^ s) % 2 ^ width ≡ 2 ^ s
+one-shifted-in width s h = shl-exact 1 s width (omega arith) (omega arith) ∙ one-mul _
+
 pub one-shifted : (s : ℕ) → s ≤ 31 → (1 * 2 ^ s) % 2 ^ 32 ≡ 2 ^ s
-one-shifted s h = shl-exact 1 s 32 (omega arith) (omega arith) ∙ one-mul _
+one-shifted s h = one-shifted-in 32 s (omega arith)
 
 -- what 31 bits hold, negated
 module _ (m : ℕ) (less : m < 2 ^ 31) where
