@@ -49,7 +49,7 @@ enum {
     SKV_BIT_COUNT = 6,    /* a map record's bit count isn't its id's */
     SKV_UNIT = 7,         /* unit above 1 or attenuation above 3 */
     SKV_RAW = 8,          /* count above 4095 */
-    SKV_UNDERFLOW = 9,    /* the two points leave the line no offset */
+    SKV_UNDERFLOW = 9,    /* by the two points the line would begin below 0 mV */
     SKV_LINE_RECORD = 10, /* line record outside its ranges */
     SKV_STRETCH = 11,     /* a stretch whose first count plus length is above 4096 */
     SKV_NO_CODE = 12,     /* no code in that version: S2 version not 2, or C6 version not 1 or 2 */
@@ -191,7 +191,7 @@ SkvOutcome skv_check_map(uint8_t chip, const uint8_t *map, size_t map_len);
 /* ESP32 line calibration. */
 
 /* The line record of a unit at an attenuation.
-   Refusals 1 (dump), 7 (unit or attenuation), the map's, 9 (underflow). */
+   Refusals 1 (dump), 7 (unit or attenuation), the map's, 9 (underflow: at one attenuation, and not at another). */
 SkvDecoded skv_decode(const uint32_t *dump, size_t dump_len, const uint8_t *map, size_t map_len, uint8_t unit, uint8_t attenuation);
 
 /* Whether a record is inside its ranges.

@@ -17,7 +17,7 @@ static SkvDecoded with_vref(uint32_t code)
     return skv_decode(dump, WORDS, map, ESP32_MAP, 0, 3);
 }
 
-static SkvDecoded with_codes(uint32_t low, uint32_t high)
+static SkvDecoded with_codes(uint32_t low, uint32_t high, uint8_t attenuation)
 {
     uint32_t dump[WORDS] = {0};
     uint8_t map[ESP32_MAP];
@@ -27,7 +27,7 @@ static SkvDecoded with_codes(uint32_t low, uint32_t high)
     put_bits(dump, 3, LOW2, 7, 1);
     put_bits(dump, 3, HIGH, 9, high);
     put_bits(dump, 3, HIGH2, 9, 1);
-    return skv_decode(dump, WORDS, map, ESP32_MAP, 0, 3);
+    return skv_decode(dump, WORDS, map, ESP32_MAP, 0, attenuation);
 }
 
 static int no_record(SkvDecoded d, uint8_t number)
@@ -47,10 +47,14 @@ static void decoding(void)
     CHECK(with_vref(0x1F).record.vref == 995);
     r = with_vref(0).record;
     CHECK(r.coeff_a == 52798 && r.coeff_b == 142 && r.unit == 0 && r.use_lut == 1);
-    r = with_codes(1, 1).record;
+    r = with_codes(1, 1, 3).record;
     CHECK(r.coeff_a == 52567 && r.coeff_b == 138);
-    CHECK(with_codes(63, 0x1BD).refusal.number == 0);
-    CHECK(no_record(with_codes(63, 0x1BC), SKV_UNDERFLOW));
+    for (uint8_t attenuation = 0; attenuation < 4; attenuation++)
+        CHECK(with_codes(63, 0x1BD, attenuation).refusal.number == 0);
+    CHECK(with_codes(63, 0x1BD, 0).record.coeff_b == 0);
+    CHECK(no_record(with_codes(63, 0x1BC, 0), SKV_UNDERFLOW));
+    CHECK(with_codes(63, 0x1BC, 3).refusal.number == 0 && with_codes(63, 0x1BC, 3).record.coeff_b == 53);
+    CHECK(no_record(with_codes(63, 0x101, 3), SKV_UNDERFLOW));
     esp32_map(map);
     CHECK(skv_decode(dump, WORDS, map, ESP32_MAP, 1, 2).record.unit == 1);
     CHECK(skv_decode(dump, WORDS, map, ESP32_MAP, 1, 2).record.use_lut == 0);

@@ -21,9 +21,9 @@ WORDS = {
     7: ("unit above 1 or attenuation above 3", "ask for a unit and an attenuation that exist"),
     8: ("count above 4095", "distrust the log: no converter of 12 bits gives it"),
     9: (
-        "the two points leave the line no offset",
-        "see that the map is this board's; if it is, take no voltages from this unit of the board. docs/DIFFERENCES.md says what firmware "
-        "may make of it",
+        "by the two points the line would begin below 0 mV",
+        "see that the map is this board's; if it is, take no voltages from this unit at this attenuation. docs/DIFFERENCES.md says what "
+        "firmware may make of it",
     ),
     10: ("line record outside its ranges", "decode it again; a stored record was damaged"),
     11: ("a stretch whose first count plus length is above 4096", "lend a shorter list"),

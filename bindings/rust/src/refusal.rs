@@ -67,8 +67,8 @@ refusals! {
     6 BitCount: "a map record's bit count isn't its id's", "mend the count by the table of ids";
     7 Unit: "unit above 1 or attenuation above 3", "ask for a unit and an attenuation that exist";
     8 Raw: "count above 4095", "distrust the log: no converter of 12 bits gives it";
-    9 Underflow: "the two points leave the line no offset",
-        "see that the map is this board's; if it is, take no voltages from this unit of the board";
+    9 Underflow: "by the two points the line would begin below 0 mV",
+        "see that the map is this board's; if it is, take no voltages from this unit at this attenuation";
     10 LineRecord: "line record outside its ranges", "decode it again; a stored record was damaged";
     11 Stretch: "a stretch whose first count plus length is above 4096", "lend a shorter list";
     12 NoCode: "no code in that version: S2 version not 2, or C6 version not 1 or 2", "this chip has no such code";

@@ -33,13 +33,13 @@ module _ (words : ℕ → ℕ) (dump map : List ℕ) (unit atten : ℕ) where
   decode-input e h = rw (← e) (sym (orElse-some _ _ h))
 
   pub decode-source : input ≡ 0 → {source : Source} → source ≡ sourceOf dump map unit
-      → {n : ℕ} → n ≡ sourceRefusal unit source → n ≡ decoding
+      → {n : ℕ} → n ≡ sourceRefusal unit atten source → n ≡ decoding
   unfolding decodeRefusal
   decode-source e s h = h ∙ rw (s, e)
 
   -- what is known where nothing is refused
   pub decode-good : decoding ≡ 0
-      → (fieldsRefusal words Esp32 dump map ≡ 0) × ((unit ≤ 1) × (atten ≤ 3)) × (sourceRefusal unit (sourceOf dump map unit) ≡ 0)
+      → (fieldsRefusal words Esp32 dump map ≡ 0) × ((unit ≤ 1) × (atten ≤ 3)) × (sourceRefusal unit atten (sourceOf dump map unit) ≡ 0)
   unfolding decodeRefusal
   decode-good e =
       let p = orElse-none input _ e in
@@ -62,5 +62,5 @@ module _ (words : ℕ → ℕ) (dump map : List ℕ) (unit atten : ℕ) where
   decoded-passes e =
       let good = decode-good e in
       let vref = vref-range (vref-fits words dump map (good .0)) in
-      let line = line-ranges unit atten (vrefOf (valueById Esp32 dump map 1)) (sourceOf dump map unit) (vref .1) in
+      let line = line-ranges unit atten (vrefOf (valueById Esp32 dump map 1)) (sourceOf dump map unit) (vref .1) (good .2) in
       record-good _ (record { a = line .0; b = line .1; vref-least = vref .0; vref-most = vref .1; unit = good .1 .0 })

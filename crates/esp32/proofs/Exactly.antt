@@ -2,7 +2,9 @@
 use mathlib.Core.Path.{_≡_, refl, sym, _∙_}
 use mathlib.Core.Bool.{true, false, true≢false}
 use mathlib.Core.List.{List}
-use Prim.Native.Nat.{ℕ, _≤_, _<_}
+use Prim.Native.Nat.{ℕ, _+_}
+use lib.IntN.{ℤ, pos}
+use lib.Signed.{_≤ℤ_, _<ℤ_}
 use Rattle.terms.specs.declared.chip.MapChip.the-variants.{Esp32}
 use Rattle.terms.specs.Exactly.{Exactly}
 use Rattle.terms.proofs.Exactly.{Some, exactly, by-first}
@@ -10,10 +12,10 @@ use Rattle.terms.proofs.Order.{either, whether}
 use Rattle.inputs.specs.Input.{decodingRefusal}
 use Rattle.inputs.specs.When.{DecodingWhen}
 use Rattle.inputs.proofs.Exactly.{decoding-exactly}
-use Rattle.esp32.specs.Characterize.{sourceRefusal}
+use Rattle.esp32.specs.Characterize.{tpOffset, sourceRefusal}
 use Rattle.esp32.specs.Decode.{twoPointUsed, sourceOf, decodeRefusal}
-use Rattle.esp32.specs.When.{topFor, DecodeWhen, before, underflow, decoded}
-use Rattle.esp32.proofs.Coefficients.{top-good, top-refused}
+use Rattle.esp32.specs.When.{topFor, bFor, DecodeWhen, before, underflow, decoded}
+use Rattle.esp32.proofs.Coefficients.{b-negative, b-not-negative, b-refused, b-good}
 use Rattle.esp32.proofs.Sources.{source-two-point, source-vref}
 use Rattle.esp32.proofs.Decoding.{decode-input, decode-source}
 
@@ -27,19 +29,26 @@ module _ (words : ℕ → ℕ) (dump map : List ℕ) (unit atten : ℕ) where
   abbrev input : Exactly (decodingRefusal words Esp32 dump map unit atten) Before
   input = decoding-exactly words Esp32 dump map unit atten
 
-  source-underflow : twoPointUsed dump map ≡ true → 850 < topFor dump map unit → sourceRefusal unit (sourceOf dump map unit) ≡ 9
-  unfolding sourceRefusal
-  source-underflow t h = rw (source-two-point dump map unit t) (top-refused (topFor dump map unit) h)
+  -- what b's sign says
+  abbrev b-of : ℤ
+  b-of = bFor dump map unit atten
 
-  source-good : twoPointUsed dump map ≡ true → topFor dump map unit ≤ 850 → sourceRefusal unit (sourceOf dump map unit) ≡ 0
-  unfolding sourceRefusal
-  source-good t h = rw (source-two-point dump map unit t) (top-good (topFor dump map unit) h)
+  abbrev source : ℕ
+  source = sourceRefusal unit atten (sourceOf dump map unit)
 
-  source-never : twoPointUsed dump map ≡ false → sourceRefusal unit (sourceOf dump map unit) ≡ 0
+  source-underflow : twoPointUsed dump map ≡ true → b-of <ℤ pos 0 → source ≡ 9
+  unfolding sourceRefusal
+  source-underflow t h = rw (source-two-point dump map unit t) (b-refused _ _ h)
+
+  source-good : twoPointUsed dump map ≡ true → pos 0 ≤ℤ b-of → source ≡ 0
+  unfolding sourceRefusal
+  source-good t h = rw (source-two-point dump map unit t) (b-good _ _ h)
+
+  source-never : twoPointUsed dump map ≡ false → source ≡ 0
   unfolding sourceRefusal
   source-never t = rw (source-vref dump map unit t)
 
-  by-source : Before 0 → {n : ℕ} → sourceRefusal unit (sourceOf dump map unit) ≡ n → number ≡ n
+  by-source : Before 0 → {n : ℕ} → source ≡ n → number ≡ n
   by-source k e = sym (decode-source _ _ _ _ _ (input 0 .1 k) refl (sym e))
 
   decode-gives : (n : ℕ) → DecodeWhen words dump map unit atten n → number ≡ n
@@ -51,7 +60,10 @@ module _ (words : ℕ → ℕ) (dump map : List ℕ) (unit atten : ℕ) where
   source-some : Before 0 → Some (DecodeWhen words dump map unit atten)
   source-some k =
       whether (twoPointUsed dump map)
-      (λ t. either (topFor dump map unit) 850 (λ h. (0, decoded k (λ s. h))) (λ h. (9, underflow k t h)))
+      (λ t.
+      either (topFor dump map unit) (850 + tpOffset unit atten)
+      (λ h. (0, decoded k (λ s. b-not-negative _ _ h)))
+      (λ h. (9, underflow k t (b-negative _ _ h))))
       (λ t. (0, decoded k (λ s. absurd (true≢false (sym s ∙ t)))))
 
   pub decode-exactly : Exactly number (DecodeWhen words dump map unit atten)

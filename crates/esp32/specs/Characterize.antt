@@ -1,9 +1,10 @@
--- Document 01, "ESP32 line rules": a and b, by two points or by Vref (in `vref`), with refusal 9.
+-- Document 01, "ESP32 line rules": a and b, by two points or by Vref (in `vref`); document 02, #104: b by two points, and refusal 9.
 -- In esp-hal: `characterize_using_two_point` of calibration/line/esp32.rs, which cites ESP-IDF's
 -- components/esp_adc/esp32/adc_cali_line_fitting.c, line 155.
 use mathlib.Core.List.{List, [], _∷_}
 use Prim.Native.Nat.{ℕ, _+_, _*_, _-_, _/_}
-use lib.Dec.{ltb}
+use lib.IntN.{ℤ, pos, natAbs, _+ℤ_, _-ℤ_}
+use lib.Signed.{ltZ}
 use Rattle.terms.specs.Refusal.{refuse}
 use Rattle.terms.specs.Unit.{entryOf}
 use Rattle.vref.specs.declared.coefficients.Coefficients.{Coefficients}
@@ -39,18 +40,26 @@ twoPointA scale low high = let d : ℕ = high - low in (700 * scale + d / 2) / d
 unfoldable pub topOf : ℕ → ℕ → ℕ
 topOf low high = let d : ℕ = high - low in (700 * high + d / 2) / d
 
--- "b = 850 − t + offset"
-unfoldable pub twoPointB : ℕ → ℕ → ℕ
-twoPointB t offset = 850 - t + offset
+-- "b is the whole number 850 − t + offset": a sum with sign
+unfoldable pub bOf : ℕ → ℕ → ℤ
+bOf t offset = pos 850 -ℤ pos t +ℤ pos offset
 
--- 9: two-point coefficient underflow, "exactly if t > 850"
-unfoldable pub topRefusal : ℕ → ℕ
-topRefusal t = refuse (ltb 850 t) 9 0
+-- "and refusal 9 is given exactly if it is negative"
+unfoldable pub bRefusal : ℕ → ℕ → ℕ
+bRefusal t offset = refuse (ltZ (bOf t offset) (pos 0)) 9 0
+
+-- b as a record has it. A refused one has no record, so that `natAbs` loses no sign (specs/ExactSum)
+unfoldable pub twoPointB : ℕ → ℕ → ℕ
+twoPointB t offset = natAbs (bOf t offset)
 
 -- a and b by two points
 abbrev pub twoPointLine : ℕ → ℕ → ℕ → ℕ → Coefficients
 twoPointLine unit atten low high =
     record { a = twoPointA (tpScale unit atten) low high; b = twoPointB (topOf low high) (tpOffset unit atten) }
+
+-- 9 by two points
+abbrev pub twoPointRefusal : ℕ → ℕ → ℕ → ℕ → ℕ
+twoPointRefusal unit atten low high = bRefusal (topOf low high) (tpOffset unit atten)
 
 -- A source is `TwoPoint`, with the raw bits of the unit's low and high codes, or `Vref`: a and b from it
 unfoldable pub coefficientsOf : ℕ → ℕ → ℕ → Source → Coefficients
@@ -58,6 +67,6 @@ coefficientsOf unit atten vref (TwoPoint low high) = twoPointLine unit atten (lo
 coefficientsOf unit atten vref Vref = vrefLine unit atten vref
 
 -- 9 from it; Vref never gives it
-unfoldable pub sourceRefusal : ℕ → Source → ℕ
-sourceRefusal unit (TwoPoint low high) = topRefusal (topOf (lowOf unit low) (highOf unit high))
-sourceRefusal unit Vref = 0
+unfoldable pub sourceRefusal : ℕ → ℕ → Source → ℕ
+sourceRefusal unit atten (TwoPoint low high) = twoPointRefusal unit atten (lowOf unit low) (highOf unit high)
+sourceRefusal unit atten Vref = 0

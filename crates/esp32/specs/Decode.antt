@@ -60,7 +60,7 @@ decodedRecord dump map unit atten = recordFrom (foundOf dump map unit atten) uni
 unfoldable pub decodeRefusal : (ℕ → ℕ) → List ℕ → List ℕ → ℕ → ℕ → ℕ
 decodeRefusal words dump map unit atten =
     orElse (decodingRefusal words Esp32 dump map unit atten)
-    (sourceRefusal unit (sourceOf dump map unit))
+    (sourceRefusal unit atten (sourceOf dump map unit))
 
 -- "Decoding answers a record or one number"
 unfoldable pub decodeOf : (ℕ → ℕ) → List ℕ → List ℕ → ℕ → ℕ → Decoded

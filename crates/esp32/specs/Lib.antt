@@ -1,5 +1,6 @@
 pub mod Characterize
 pub mod Code
 pub mod Decode
+pub mod ExactSum
 pub mod Private
 pub mod When

@@ -8,7 +8,7 @@ use vref::coefficients::vref_line;
 ghost use mathlib.Core.Path.{_≡_};
 ghost use Prim.Native.Nat.{_≤_, _<_};
 ghost use Rattle.esp32.specs.Private.{Apart, InBits, tpAttenOf};
-ghost use Rattle.esp32.specs.Characterize.{twoPointA, topOf, twoPointB, topRefusal, twoPointLine, coefficientsOf, sourceRefusal};
+ghost use Rattle.esp32.specs.Characterize.{twoPointA, topOf, bRefusal, twoPointB, twoPointLine, twoPointRefusal, coefficientsOf, sourceRefusal};
 
 const TP_LOW_VOLTAGE: u32 = 150;
 
@@ -39,7 +39,7 @@ fn tp_atten(k: u8) -> Atten
     }
 }
 
-// Document 01's t: b is 850 less t, before the offset.
+// Document 01's t: b is 850 less t, and the offset.
 fn top(low: u32, high: u32) -> u32
     requires { ⌜ Apart low high ⌝ }
     ensures { λ r. ⌜ r ≡ topOf low high ⌝ }
@@ -48,11 +48,12 @@ fn top(low: u32, high: u32) -> u32
     (DELTA_V * high + delta_x / 2) / delta_x
 }
 
-// 9 where b's sum would go below zero.
-fn top_refusal(t: u32) -> u8
-    ensures { λ r. ⌜ r ≡ topRefusal t ⌝ }
+// 9 where b is negative.
+fn b_refusal(t: u32, offset: u32) -> u8
+    requires { ⌜ offset ≤ 66 ⌝ }
+    ensures { λ r. ⌜ r ≡ bRefusal t offset ⌝ }
 {
-    if TP_HIGH_VOLTAGE < t {
+    if TP_HIGH_VOLTAGE + offset < t {
         return refusal::UNDERFLOW;
     }
     refusal::NONE
@@ -67,17 +68,17 @@ fn two_point_a(scale: u32, low: u32, high: u32) -> u32
     (DELTA_V * scale + delta_x / 2) / delta_x
 }
 
-// b by two points, where t isn't refused.
+// b by two points, where it isn't refused. The offset comes first: esp-hal takes t off before it, and goes below zero on the way.
 fn two_point_b(t: u32, offset: u32) -> u32
-    requires { ⌜ (topRefusal t ≡ 0) × (offset ≤ 66) ⌝ }
+    requires { ⌜ (bRefusal t offset ≡ 0) × (offset ≤ 66) ⌝ }
     ensures { λ r. ⌜ r ≡ twoPointB t offset ⌝ }
 {
-    TP_HIGH_VOLTAGE - t + offset
+    TP_HIGH_VOLTAGE + offset - t
 }
 
 // a and b from the counts at 850 mV and at 150 mV.
 fn characterize_using_two_point(unit: u8, atten: u8, high: u32, low: u32) -> Coefficients
-    requires { ⌜ (unit ≤ 1) × (atten ≤ 3) × Apart low high × (topRefusal (topOf low high) ≡ 0) ⌝ }
+    requires { ⌜ (unit ≤ 1) × (atten ≤ 3) × Apart low high × (twoPointRefusal unit atten low high ≡ 0) ⌝ }
     ensures { λ r. ⌜ r ≡ twoPointLine unit atten low high ⌝ }
 {
     let entry = tp_atten(ATTENUATIONS * unit + atten);
@@ -89,17 +90,28 @@ fn characterize_using_two_point(unit: u8, atten: u8, high: u32, low: u32) -> Coe
     }
 }
 
-// 9 where the source is two points that leave no room for b.
-pub(crate) fn source_refusal(unit: u8, source: Source) -> u8
-    requires { ⌜ InBits source ⌝ }
-    ensures { λ r. ⌜ r ≡ sourceRefusal unit source ⌝ }
+// 9 where these counts make b negative.
+fn two_point_refusal(unit: u8, atten: u8, high: u32, low: u32) -> u8
+    requires { ⌜ (unit ≤ 1) × (atten ≤ 3) × Apart low high ⌝ }
+    ensures { λ r. ⌜ r ≡ twoPointRefusal unit atten low high ⌝ }
+{
+    let entry = tp_atten(ATTENUATIONS * unit + atten);
+    b_refusal(top(low, high), entry.1)
+}
+
+// 9 where the source is two points that make b negative.
+pub(crate) fn source_refusal(unit: u8, atten: u8, source: Source) -> u8
+    requires { ⌜ (unit ≤ 1) × (atten ≤ 3) × InBits source ⌝ }
+    ensures { λ r. ⌜ r ≡ sourceRefusal unit atten source ⌝ }
 {
     match source {
         Source::TwoPoint(low, high) => {
-            top_refusal(top(
-                code::efuse_tp_low(unit, low),
+            two_point_refusal(
+                unit,
+                atten,
                 code::efuse_tp_high(unit, high),
-            ))
+                code::efuse_tp_low(unit, low),
+            )
         }
         Source::Vref => refusal::NONE,
     }
@@ -107,7 +119,7 @@ pub(crate) fn source_refusal(unit: u8, source: Source) -> u8
 
 // The coefficients from a source that isn't refused; Vref in millivolts.
 pub(crate) fn characterize(unit: u8, atten: u8, vref: u32, source: Source) -> Coefficients
-    requires { ⌜ (unit ≤ 1) × (atten ≤ 3) × (vref ≤ 1205) × InBits source × (sourceRefusal unit source ≡ 0) ⌝ }
+    requires { ⌜ (unit ≤ 1) × (atten ≤ 3) × (vref ≤ 1205) × InBits source × (sourceRefusal unit atten source ≡ 0) ⌝ }
     ensures { λ r. ⌜ r ≡ coefficientsOf unit atten vref source ⌝ }
 {
     match source {

@@ -97,7 +97,7 @@ pub fn decode(dump: &[u32], map: &[u8], unit: u8, atten: u8) -> Decoded
         return Decoded::Refused(Refusal { number });
     }
     let source = source(dump, map, unit);
-    let number = characterize::source_refusal(unit, source);
+    let number = characterize::source_refusal(unit, atten, source);
     if number != refusal::NONE {
         return Decoded::Refused(Refusal { number });
     }

@@ -10,7 +10,7 @@ use Rattle.inputs.specs.Input.{decodingRefusal}
 use Rattle.maps.specs.Value.{valueById}
 use Rattle.vref.specs.Coefficients.{vrefScale, vrefOffset}
 use Rattle.esp32.specs.Code.{vrefOf, twoPointCode, pointOf, lowOf, highOf}
-use Rattle.esp32.specs.Characterize.{tpScale, tpOffset, twoPointA, topOf, twoPointB, topRefusal, coefficientsOf, sourceRefusal}
+use Rattle.esp32.specs.Characterize.{tpScale, tpOffset, twoPointA, topOf, bOf, bRefusal, twoPointB, coefficientsOf, sourceRefusal}
 use Rattle.esp32.specs.Decode.{twoPointUsed, sourceOf, foundOf, decodedRecord, decodeRefusal, decodeOf}
 use Rattle.line_record.specs.Record.{usesLookup, recordRefusal}
 use Rattle.lut.specs.Row.{lowAt, highAt}
@@ -31,7 +31,7 @@ use Rattle.marked.specs.Cases.{Case, cases}
 pub marked : map (λ (c : Case). c .asked) cases ≡ map (λ (c : Case). c .answer) cases
 unfolding
     vrefOf twoPointCode pointOf lowOf highOf signMagnitude
-    tpScale tpOffset vrefScale vrefOffset twoPointA topOf twoPointB topRefusal coefficientsOf sourceRefusal
+    tpScale tpOffset vrefScale vrefOffset twoPointA topOf bOf bRefusal twoPointB coefficientsOf sourceRefusal
     usesLookup recordRefusal lowAt highAt numeratorAt voltageAt lineVoltage blendOf beyondLine answerAt convertRefusal convertOf
     firstOf dumpRefusal bitsOf placeRefusal fieldBits countRefusal mapRecordRefusal mapRefusal decodingRefusal valueById
     twoPointUsed sourceOf foundOf decodedRecord decodeRefusal decodeOf

@@ -1,4 +1,5 @@
--- Document 01, "Marked cases, one list under one statement": what each case asks of the library's definitions, and what it must be.
+-- Document 01, "Marked cases, one list under one statement", as document 02 has changed them: what each case asks of the library's
+-- definitions, and what it must be.
 use mathlib.Core.List.{List, [], _∷_, _++_, map, flatten}
 use Prim.Native.Nat.{ℕ, _+_, _*_, _-_, _^_}
 use lib.IntN.{ℤ, pos, negℤ}
@@ -65,10 +66,12 @@ a-and-b dump = decoded dump .«coeff_a» ∷ decoded dump .«coeff_b» ∷ []
 abbrev converted : ℕ → ℕ
 converted raw = voltageOf (convertOf (decoded (filledWith 0)) raw) .0
 
--- t of unit 0's codes, and the number of the decoding
-abbrev top-and-number : ℕ → ℕ → List ℕ
-top-and-number low high =
-    topOf (lowOf 0 low) (highOf 0 high) ∷ numberDecoded (decodeOf eight (twoPoints low high) mapped 0 3) ∷ []
+-- t of unit 0's codes, and the number of their decoding at an attenuation
+abbrev top : ℕ → ℕ → ℕ
+top low high = topOf (lowOf 0 low) (highOf 0 high)
+
+abbrev number : ℕ → ℕ → ℕ → ℕ
+number low high atten = numberDecoded (decodeOf eight (twoPoints low high) mapped 0 atten)
 
 -- the S2's reading of version 2. Its tags are unit × 4 + attenuation after 17 for the high reading, after 25 for the initial code
 abbrev reading : List ℕ → ℕ → ℕ → RtcCalibParam → ℤ
@@ -112,9 +115,13 @@ cases =
     }
     -- 5. "Two-point codes all 1, unit 0, 11 dB: a 52567, b 138"
     ∷ record { asked = whole (a-and-b (twoPoints 1 1)); answer = whole (52567 ∷ 138 ∷ []) }
-    -- 6. "Unit 0, low code 63, high code −67 (0x1BD): t 850, accepted; −68 (0x1BC): t 851, refused"
-    ∷ record { asked = whole (top-and-number 63 445); answer = whole (850 ∷ 0 ∷ []) }
-    ∷ record { asked = whole (top-and-number 63 444); answer = whole (851 ∷ 9 ∷ []) }
+    -- 6. "Unit 0, low code 63, high code −67 (0x1BD): t 850, accepted", at every attenuation; document 02, #104: "high code −68 [0x1BC],
+    -- low code 63, unit 0 gives b 53 at 11 dB and is refused at 0 dB"
+    ∷ record { asked = whole (top 63 445 ∷ map (number 63 445) (0 ∷ 1 ∷ 2 ∷ 3 ∷ [])); answer = whole (850 ∷ 0 ∷ 0 ∷ 0 ∷ 0 ∷ []) }
+    ∷ record {
+      asked = whole (number 63 444 3 ∷ decoded (twoPoints 63 444) .«coeff_b» ∷ number 63 444 0 ∷ []);
+      answer = whole (0 ∷ 53 ∷ 9 ∷ []);
+    }
     -- 7. "S2, zero block: tags 17, 28, 32 give 6110, 1685, 1719"
     ∷ record {
       asked = reading (filledWith 0) 0 0 Vhigh ∷ reading (filledWith 0) 0 3 Vinit ∷ reading (filledWith 0) 1 3 Vinit ∷ [];

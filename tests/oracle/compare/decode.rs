@@ -62,10 +62,15 @@ pub fn vref(library: &Library, tally: &mut Tally, noise: &mut Noise) -> Compared
     Ok(())
 }
 
+/// Every low code with every high one.
+pub fn pairs() -> impl Iterator<Item = (u32, u32)> {
+    (0..128).flat_map(|low| (0..512).map(move |high| (low, high)))
+}
+
 /// Every pair of two-point codes, unit and attenuation on plain dumps, and one unit and attenuation of each pair on noise. The other
 /// unit has codes of its own.
 pub fn two_point(library: &Library, tally: &mut Tally, noise: &mut Noise) -> Compared {
-    for (low, high) in (0..128).flat_map(|low| (0..512).map(move |high| (low, high))) {
+    for (low, high) in pairs() {
         for (unit, atten) in good_units_and_attens() {
             let codes = Codes::any(noise, 1).with(unit, low, high);
             plainly(library, tally, codes, (unit, atten))?;

@@ -52,6 +52,11 @@ fn fill_in(library: &Library, tally: &mut Tally, record: LineRecord, crates: &[M
     Ok(())
 }
 
+/// Fills a whole table, and holds it to the crate's.
+pub fn at_once(library: &Library, tally: &mut Tally, record: LineRecord, crates: &[Millivolt]) -> Compared {
+    fill_in(library, tally, record, crates, &[(0, TABLE)])
+}
+
 /// The crate's whole table. Where the oracle stops, that is the difference.
 fn crates_table(record: LineRecord) -> Result<Vec<Millivolt>, Box<Difference>> {
     let table = quietly(|| answers::fill(records::crates(record), 0, TABLE).expect("a good record"));
@@ -65,7 +70,7 @@ pub fn fill(library: &Library, tally: &mut Tally, noise: &mut Noise) -> Compared
     let one_by_one: Vec<Stretch> = (0..TABLE).map(|count| (count, count + 1)).collect();
     for (k, record) in records::all(noise).into_iter().enumerate() {
         let crates = crates_table(record)?;
-        fill_in(library, tally, record, &crates, &[(0, TABLE)])?;
+        at_once(library, tally, record, &crates)?;
         fill_in(library, tally, record, &crates, &[(0, 2880), (2880, TABLE)])?;
         fill_in(library, tally, record, &crates, &covering(noise))?;
         if k % 64 == 0 {

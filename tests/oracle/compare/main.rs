@@ -8,6 +8,7 @@ mod decode;
 mod faults;
 mod fields;
 mod fill;
+mod firmware;
 mod input;
 mod library;
 mod logs;

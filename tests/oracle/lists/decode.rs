@@ -1,11 +1,13 @@
 //! ESP32 line calibration: decoding.
-use oracle::answers;
+use std::collections::BTreeSet;
+
 use oracle::codes::{ATTENS, Codes, UNITS};
 use oracle::dumps::{Builder, any_words, lent};
 use oracle::line::Record;
 use oracle::maps::{of_length, spoil};
 use oracle::noise::Noise;
 use oracle::rules::{RECORD, number};
+use oracle::{answers, document};
 
 use crate::list::List;
 
@@ -44,19 +46,21 @@ fn one_zero_cases(noise: &mut Noise) -> Vec<Case> {
     cases
 }
 
-/// For each unit and low code, the last high code that is accepted and the first that is refused with 9.
+/// For each unit, attenuation and low code the high codes on both sides of two limits: where t gets above 850, which esp-hal's checked
+/// build panics at, and where b gets negative, which is refused with 9.
 fn limit_cases(noise: &mut Noise) -> Vec<Case> {
+    // Falling codes: 0x0FF down to 1, then 0x1FF (-1) down to 0x101 (-255).
+    let falling: Vec<u32> = (1..0x100).rev().chain((0x101..0x200).rev()).collect();
     let mut cases = Vec::new();
-    for unit in UNITS {
+    for (unit, atten) in UNITS.into_iter().flat_map(|unit| ATTENS.map(|atten| (unit, atten))) {
         for low in 1..0x80 {
-            // Falling codes: 0x0FF down to 1, then 0x1FF (-1) down to 0x101 (-255).
-            let falling: Vec<u32> = (1..0x100).rev().chain((0x101..0x200).rev()).collect();
             let codes = Codes::any(noise, 1);
-            let underflows = |high: &u32| codes.with(unit, low, *high).decoded(unit, 0) == Err(9);
-            let Some(first) = falling.iter().position(underflows) else { continue };
-            for high in &falling[first.saturating_sub(1)..=first] {
-                cases.push((codes.with(unit, low, *high), unit, noise.pick(&ATTENS)));
-            }
+            let points = |high: &u32| document::two_points(unit.into(), atten.into(), low, *high);
+            let above = falling.partition_point(|high| points(high).t <= 850);
+            let negative = falling.partition_point(|high| points(high).b >= 0);
+            let beside = [above, negative].into_iter().filter(|first| *first < falling.len()).flat_map(|first| [first - 1, first]);
+            let places: BTreeSet<usize> = beside.collect();
+            cases.extend(places.into_iter().map(|place| (codes.with(unit, low, falling[place]), unit, atten)));
         }
     }
     cases

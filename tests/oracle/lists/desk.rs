@@ -3,7 +3,7 @@ use std::collections::BTreeSet;
 use std::fs;
 use std::path::Path;
 
-use oracle::codes::Codes;
+use oracle::codes::{ATTENS, Codes};
 use oracle::desk::{DUMP_FILE, output};
 use oracle::dumps::{Builder, ONES, ZEROS};
 use oracle::fields::{Field, field_of};
@@ -120,14 +120,20 @@ fn good_cases(good: &Case) -> Vec<Case> {
     ]
 }
 
+/// At which attenuations a unit's codes are decoded, and not refused with 9.
+fn decoded_at(codes: Codes, unit: u8) -> [bool; 4] {
+    ATTENS.map(|atten| codes.decoded(unit, atten).is_ok())
+}
+
 /// Boards that are decoded at one unit only, and others at the ends of the rules.
 fn code_cases(noise: &mut Noise, good: &Case, map: &[u8]) -> Vec<Case> {
     let codes = two_point(noise);
     let mut with = |codes: Codes| Some(board(noise, map, codes));
-    // The last codes of unit 0 that are accepted; refused with 9 at unit 0 only; at unit 1 only; one code zero, so Vref.
-    let accepted = with(codes.with(0, 0x3F, 0x1BD));
-    let refused_at_0 = with(codes.with(0, 0x3F, 0x1BC));
-    let refused_at_1 = with(codes.with(1, 0x3F, 0x180));
+    // The last codes of unit 0 that are accepted at 0 dB; refused with 9 at unit 0 only, whatever the attenuation; at unit 1 only; one
+    // code zero, so Vref.
+    let [last, below_0, below_1] = [codes.with(0, 0x3F, 0x1BD), codes.with(0, 0x3F, 0x101), codes.with(1, 0x3F, 0x101)];
+    assert_eq!([decoded_at(last, 0), decoded_at(below_0, 0), decoded_at(below_1, 1)], [[true; 4], [false; 4], [false; 4]]);
+    let (accepted, refused_at_0, refused_at_1) = (with(last), with(below_0), with(below_1));
     let one_zero = with(codes.with(1, 0, 0x1FF));
     let ones = Some(dump_file(&ONES));
     let case = |field: &File, reference: &File| Case { field: field.clone(), reference: reference.clone(), ..good.clone() };
@@ -139,6 +145,25 @@ fn code_cases(noise: &mut Noise, good: &Case, map: &[u8]) -> Vec<Case> {
         case(&ones, &one_zero).on(logs::orders()),
         case(&refused_at_0, &None),
         case(&Some(Vec::new()), &refused_at_1),
+    ]
+}
+
+/// Boards whose b is negative at some attenuations only: one that is refused at 0 dB of unit 0 and answered from 2.5 dB on, which is
+/// document 02's, and one that is answered at 11 dB alone of unit 1. Attenuations, units and boards change from sample to sample.
+fn attenuation_cases(noise: &mut Noise, good: &Case, map: &[u8]) -> Vec<Case> {
+    let codes = two_point(noise);
+    let mut with = |codes: Codes| Some(board(noise, map, codes));
+    let (from_2_5_db, at_11_db) = (codes.with(0, 0x3F, 0x1BC), codes.with(1, 0x3F, 0x180));
+    assert_eq!(decoded_at(from_2_5_db, 0), [false, true, true, true]);
+    assert_eq!(decoded_at(at_11_db, 1), [false, false, false, true]);
+    let both = with(from_2_5_db.with(1, 0x3F, 0x180));
+    let (refused_at_0_db, answered_at_11_db) = (with(from_2_5_db), with(at_11_db));
+    let case = |field: &File, reference: &File| Case { field: field.clone(), reference: reference.clone(), ..good.clone() };
+    vec![
+        case(&refused_at_0_db, &answered_at_11_db).on(logs::attenuations()),
+        case(&answered_at_11_db, &refused_at_0_db).on(logs::between()),
+        case(&both, &both).on(logs::orders()),
+        case(&both, &None).on(logs::counts_by_key()),
     ]
 }
 
@@ -196,7 +221,7 @@ fn map_cases(noise: &mut Noise, good: &Case) -> Vec<Case> {
     maps.push(Some(changed(&[(0, 2, 252), (4, 1, 11)])));
     maps.push(Some(of_length(changed(&[(0, 0, 2)]), 47)));
     let mut cases: Vec<Case> = maps.into_iter().map(|map| Case { map, ..good.clone() }).collect();
-    let underflow = two_point(noise).with(0, 0x3F, 0x1BC);
+    let underflow = two_point(noise).with(0, 0x3F, 0x101);
     let field = Some(board(noise, &plain_map(), underflow));
     cases.push(Case { field, ..good.mapped(changed(&[(5, 4, 8)])) });
     cases
@@ -242,6 +267,7 @@ fn cases() -> Vec<Case> {
     cases.extend(map_cases(noise, &plain));
     cases.extend(log_cases(noise, &plain));
     cases.extend((0..8).map(|_| any_case(noise)));
+    cases.extend(attenuation_cases(noise, &plain, &plain_map()));
     cases
 }
 

@@ -6,9 +6,10 @@ pub type Key = u8;
 
 pub const KEYS: std::ops::Range<Key> = 0..16;
 
-/// The key on the other board, and the key of the other unit.
+/// What makes a key that of the other board, of the other unit, and of the other attenuations, bit by bit.
 const OTHER_BOARD: Key = 8;
 const OTHER_UNIT: Key = 4;
+const OTHER_ATTENUATIONS: [Key; 3] = [1, 2, 3];
 
 /// Counts at which an answer changes its way, and beside them; the last ones are refused.
 const COUNTS: [u16; 12] = [0, 2879, 2880, 2881, 2912, 2943, 2944, 2945, 4094, 4095, 4096, 65535];
@@ -77,12 +78,22 @@ pub fn orders() -> Vec<u8> {
     rising(&keys, 4096 - keys.len() as u16)
 }
 
-/// Each key with its other board's and with its other unit's: there, again, and back. Where only one of the two is decoded, the
-/// table has to stay.
-pub fn between() -> Vec<u8> {
-    let pairs = KEYS.flat_map(|key| [(key, key ^ OTHER_BOARD), (key, key ^ OTHER_UNIT)]);
+/// A key and the others that it is asked in turn with: there, again, and back. Where only one of the two is decoded, the table has to
+/// stay.
+fn in_turn<const N: usize>(others: [Key; N]) -> Vec<u8> {
+    let pairs = KEYS.flat_map(|key| others.map(|other| (key, key ^ other)));
     let keys: Vec<Key> = pairs.flat_map(|(key, other)| [key, other, other, key]).collect();
     rising(&keys, 2850)
+}
+
+/// Each key with its other board's and with its other unit's.
+pub fn between() -> Vec<u8> {
+    in_turn([OTHER_BOARD, OTHER_UNIT])
+}
+
+/// Each key with the three other attenuations of its board and unit.
+pub fn attenuations() -> Vec<u8> {
+    in_turn(OTHER_ATTENUATIONS)
 }
 
 /// Every count of the list, key by key.

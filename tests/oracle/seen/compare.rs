@@ -61,8 +61,16 @@ fn marked_line(tally: &mut Tally) {
         tally.same(line::convert(by_vref, raw), Ok(mv));
     }
     tally.same(decode([0, 1, 1, 1, 1, 1]), Some(Record { coeff_a: 52567, coeff_b: 138, ..by_vref }));
-    for (high, accepted) in [(0x1BD, true), (0x1BC, false)] {
-        tally.same(decode([0, 1, 63, 1, high, 1]).is_some(), accepted);
+    marked_underflow(tally);
+}
+
+/// Case 6, as document 02 has it: the plain build's b is 53 at 11 dB, and at 0 dB a number that no record may have. The checked build
+/// panics at both.
+fn marked_underflow(tally: &mut Tally) {
+    for (high, atten, b) in [(0x1BD, 0, 0), (0x1BD, 3, 54), (0x1BC, 3, 53), (0x1BC, 0, u32::MAX)] {
+        let (dump, map) = dump_and_map(MapChip::Esp32, &[0, 1, 63, 1, high, 1]);
+        tally.same(line::decode(&dump, &map, 0, atten).is_ok(), high == 0x1BD);
+        tally.same(line::decode_plain(&dump, &map, 0, atten).map(|record| record.coeff_b), Ok(b));
     }
 }
 
@@ -136,23 +144,23 @@ fn codes(first: u32, units: usize, attens: usize) -> impl Iterator<Item = (u32, 
     (0..first).flat_map(move |code| (0..units).flat_map(move |unit| (0..attens).map(move |atten| (code, unit, atten))))
 }
 
-/// Every pair of two-point codes that aren't zero, every unit and attenuation: a record, or the panic that is refusal 9.
+/// Every pair of two-point codes that aren't zero, every unit and attenuation. The checked build gives the formulas' record, or panics,
+/// exactly where t is above 850; a plain build gives them all, with b as 32 bits hold it: the exact sum, unless that is negative.
 fn two_point() -> u64 {
-    let mut tally = Tally::new("two-point decoding");
-    let mut panics = 0;
+    let mut checked = Tally::new("two-point decoding, checked build");
+    let mut plain = Tally::new("two-point decoding, plain build");
     for (pair, unit, atten) in codes(128 * 512, 2, 4) {
         let (low, high) = (pair / 512, pair % 512);
         if low == 0 || high == 0 {
             continue;
         }
         let (dump, map) = dump_and_map(MapChip::Esp32, &[0, 1, low, low, high, high]);
-        let decoded = line::decode(&dump, &map, unit as u8, atten as u8).ok();
-        panics += u64::from(decoded.is_none());
-        tally.same(decoded, document::two_point(unit, atten, low, high).map(|ab| record(ab, 0, unit, atten)));
+        let document::TwoPoints { a, t, b } = document::two_points(unit, atten, low, high);
+        let wrapped = record((a, b.rem_euclid(1 << 32)), 0, unit, atten);
+        checked.same(line::decode(&dump, &map, unit as u8, atten as u8).ok(), (t <= 850).then_some(wrapped));
+        plain.same(line::decode_plain(&dump, &map, unit as u8, atten as u8), Ok(wrapped));
     }
-    let differ = tally.report();
-    println!("  of them refused with 9 where the crate panics: {panics}");
-    differ
+    checked.report() + plain.report()
 }
 
 /// Every count of every Vref record and of records drawn from the whole range.

@@ -61,36 +61,40 @@ fn line() {
 }
 
 fn two_point() {
-    let decode = |high, atten| {
+    for (high, atten) in [(0x1BD, 3), (0x1BC, 3), (0x1BC, 0)] {
         let (dump, map) = dump_and_map(MapChip::Esp32, &[0, 1, 63, 63, high, high]);
-        line::decode(&dump, &map, 0, atten)
-    };
-    println!("two-point: unit 0, low code 63, high code 0x1BD, 11 dB: {:?}", decode(0x1BD, 3));
-    println!("two-point: unit 0, low code 63, high code 0x1BC, 11 dB: {:?}", decode(0x1BC, 3));
-    println!("two-point: unit 0, low code 63, high code 0x1BC, 0 dB: {:?}", decode(0x1BC, 0));
-    if let Ok(record) = decode(0x1BC, 0) {
-        println!("two-point: that record at raw 0: {:?}", line::convert(record, 0));
+        let plain = line::decode_plain(&dump, &map, 0, atten);
+        println!("two-point: unit 0, low code 63, high code {high:#X}, attenuation {atten}:");
+        println!("  checked build: {:?}", line::decode(&dump, &map, 0, atten));
+        println!("  plain build: {plain:?}");
+        println!("  plain build, at raw 0: {:?}", plain.and_then(line::table_plain).map(|table| table[0]));
     }
 }
 
-/// What a build without overflow checks makes of the pairs that are refused with 9.
+/// What the two builds make of every pair of codes that aren't zero, by unit and attenuation: those that the checked build panics at,
+/// and of them those where a plain build's b comes back from below zero, and those where it stays wrapped around, above any record's.
 fn underflows() {
-    for atten in 0..4 {
-        let (mut pairs, mut decoded, mut small) = (0, 0, 0);
-        for (unit, low, high) in (0..2 * 128 * 512).map(|n| (n / 65536, n / 512 % 128, n % 512)) {
-            if low == 0 || high == 0 || document::two_point(unit as usize, 0, low, high).is_some() {
-                continue;
-            }
+    let pairs = || (1..128).flat_map(|low| (1..512).map(move |high| (low, high)));
+    for (unit, atten) in (0..2).flat_map(|unit| (0..4).map(move |atten| (unit, atten))) {
+        let (mut good, mut back, mut wrapped, mut codes) = (Vec::new(), Vec::new(), 0, Vec::new());
+        for (low, high) in pairs() {
             let (dump, map) = dump_and_map(MapChip::Esp32, &[0, 1, low, low, high, high]);
-            pairs += 1;
-            if let Ok(record) = line::decode(&dump, &map, unit as u8, atten) {
-                decoded += 1;
-                small += u32::from(record.coeff_b <= 4095);
+            let plain = line::decode_plain(&dump, &map, unit, atten).expect("a plain build doesn't panic").coeff_b;
+            match line::decode(&dump, &map, unit, atten) {
+                Ok(_) => good.push(plain),
+                Err(_) => {
+                    codes.push((document::two_point_code(low, 64), document::two_point_code(high, 256)));
+                    if plain <= 4095 { back.push(plain) } else { wrapped += 1 }
+                }
             }
         }
+        let (low, high) = (codes.iter().map(|(low, _)| low).min(), codes.iter().map(|(_, high)| high).max());
         println!(
-            "two-point: attenuation {atten}: t above 850 for {pairs} pairs, decoded {decoded}, b at most 4095 for {small}"
+            "two-point: unit {unit}, attenuation {atten}: {} pairs panic, low codes from {low:?}, high codes to {high:?}",
+            codes.len()
         );
+        println!("  of them in a plain build: b 0 to {:?} for {}, wrapped around for {wrapped}", back.iter().max(), back.len());
+        println!("  the others: {} pairs, b {:?} to {:?}", good.len(), good.iter().min(), good.iter().max());
     }
 }
 

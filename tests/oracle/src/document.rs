@@ -34,19 +34,27 @@ const TWO_POINT_OFFSET: [[i64; 4]; 2] = [[0, 1, 27, 54], [0, 9, 26, 66]];
 const VREF_SCALE: [[i64; 4]; 2] = [[57431, 76236, 105481, 196602], [57236, 76175, 105678, 197170]];
 const VREF_OFFSET: [[i64; 4]; 2] = [[75, 78, 107, 142], [63, 66, 89, 128]];
 
-/// a and b of two-point codes, from their bits; none where t > 850.
-pub fn two_point(unit: usize, atten: usize, low: u32, high: u32) -> Option<(i64, i64)> {
-    by_two_points(unit, atten, two_point_code(low, 64), two_point_code(high, 256))
+/// What two points give: a, t, and document 02's b, #104, the whole number 850 - t + offset, which can be negative.
+#[derive(Debug, Clone, Copy)]
+pub struct TwoPoints {
+    pub a: i64,
+    pub t: i64,
+    pub b: i64,
 }
 
-/// The same from what the codes mean.
-pub fn by_two_points(unit: usize, atten: usize, low: i32, high: i32) -> Option<(i64, i64)> {
+/// By the bits of the codes.
+pub fn two_points(unit: usize, atten: usize, low: u32, high: u32) -> TwoPoints {
+    by_codes(unit, atten, two_point_code(low, 64), two_point_code(high, 256))
+}
+
+/// By what the codes mean.
+pub fn by_codes(unit: usize, atten: usize, low: i32, high: i32) -> TwoPoints {
     let low = i64::from([278, 421][unit] + 4 * low);
     let high = i64::from([3265, 3406][unit] + 4 * high);
     let d = high - low;
     let a = (700 * TWO_POINT_SCALE[unit][atten] + d / 2) / d;
     let t = (700 * high + d / 2) / d;
-    (t <= 850).then_some((a, 850 - t + TWO_POINT_OFFSET[unit][atten]))
+    TwoPoints { a, t, b: 850 - t + TWO_POINT_OFFSET[unit][atten] }
 }
 
 pub fn vref(code: u32) -> i64 {

@@ -1,5 +1,7 @@
-//! Document 01's refusals, written down a second time, away from the proved library: each rule gives its number.
+//! Document 01's refusals, as document 02 has changed them, written down a second time, away from the proved library: each rule gives
+//! its number.
 use crate::curve::Chip;
+use crate::document::TwoPoints;
 use crate::fields::{Field, field_of, read_u32};
 use crate::line::Record;
 use crate::{Dump, document};
@@ -87,12 +89,17 @@ pub fn raw(raw: u16) -> Answer<()> {
     refuse(raw > 4095, 8)
 }
 
-/// 9: two-point is used, and t > 850. The map is a good one.
-pub fn underflow(dump: &Dump, map: &[u8], unit: u8) -> Answer<()> {
+/// The two points that a unit's a and b come from; none where they come from Vref. The map is a good one.
+pub fn two_points(dump: &Dump, map: &[u8], unit: u8, atten: u8) -> Option<TwoPoints> {
     let bits = |id: usize| read_u32(dump, field_of(map, id - 1)).expect("a good map's field is read");
-    let two_point = bits(2) == 1 && (3..=6).all(|id| bits(id) != 0);
+    let used = bits(2) == 1 && (3..=6).all(|id| bits(id) != 0);
     let unit = usize::from(unit);
-    refuse(two_point && document::two_point(unit, 0, bits(3 + unit), bits(5 + unit)).is_none(), 9)
+    used.then(|| document::two_points(unit, atten.into(), bits(3 + unit), bits(5 + unit)))
+}
+
+/// 9, document 02, #104: b by two points, the whole number 850 - t + offset, is negative.
+pub fn underflow(points: TwoPoints) -> Answer<()> {
+    refuse(points.b < 0, 9)
 }
 
 /// 10: line record outside its ranges.

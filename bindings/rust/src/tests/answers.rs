@@ -46,14 +46,16 @@ fn a_record_converts() {
 #[test]
 fn decoding_refuses_in_order() {
     let map = esp32_map();
-    let decode = |dump: &[u32], map: &[u8], unit| LineRecord::decode(dump, map, Unit(unit), Attenuation::DB_0);
+    let decode_at = |dump: &[u32], map: &[u8], unit, attenuation| LineRecord::decode(dump, map, Unit(unit), attenuation);
+    let decode = |dump: &[u32], map: &[u8], unit| decode_at(dump, map, unit, Attenuation::DB_0);
     assert_eq!(decode(&ZEROS[1..], &map[1..], 2), Err(Refusal::Dump));
     assert_eq!(decode(&ZEROS, &map[1..], 2), Err(Refusal::Unit));
     assert_eq!(decode(&ZEROS, &map[1..], 1), Err(Refusal::Map));
-    // low code 63, high code -68: the first that is refused
+    // low code 63, high code -68: the first that is refused at 0 dB; at 11 dB it isn't
     let mut dump = ZEROS;
     dump[..6].copy_from_slice(&[0, 1, 63, 1, 0x1BC, 1]);
     assert_eq!(decode(&dump, &map, 0), Err(Refusal::Underflow));
+    assert_eq!(decode_at(&dump, &map, 0, Attenuation::DB_11).map(|record| record.coeff_b), Ok(53));
     dump[4] = 0x1BD;
     assert_eq!(decode(&dump, &map, 0).map(|record| record.coeff_b), Ok(0));
 }

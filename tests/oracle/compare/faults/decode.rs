@@ -1,5 +1,5 @@
 //! Faults of decoding.
-use oracle::document;
+use oracle::document::{self, TwoPoints};
 use suongkivat::{LineRecord, Unit};
 
 use super::{bits, good, refused, swapped, twos_complement, with_bits};
@@ -29,25 +29,49 @@ pub fn other_unit_passed_over(dump: &[u32], map: &[u8], unit: u8, atten: u8) -> 
 
 pub fn plain_twos_complement(dump: &[u32], map: &[u8], unit: u8, atten: u8) -> Decoded {
     let told = (PROVED.decode)(dump, map, unit, atten);
-    let two_point = bits(dump, map, 1) == 1 && (2..6).all(|k| bits(dump, map, k) != 0);
-    if told.number != 0 || !two_point {
+    if told.number != 0 || two_points(dump, map, unit, atten).is_none() {
         return told;
     }
     let code = |k, width| twos_complement(bits(dump, map, k + usize::from(unit)), width);
-    let coefficients = document::by_two_points(unit.into(), atten.into(), code(2, 7), code(4, 9));
-    let with = |(a, b)| LineRecord { coeff_a: a as u32, coeff_b: b as u32, ..told.value };
-    coefficients.map_or(refused(9), |coefficients| good(with(coefficients)))
+    let TwoPoints { a, b, .. } = document::by_codes(unit.into(), atten.into(), code(2, 7), code(4, 9));
+    if b < 0 { refused(9) } else { good(LineRecord { coeff_a: a as u32, coeff_b: b as u32, ..told.value }) }
 }
 
-/// At 0 dB the offset is 0, so b is 850 less t; by Vref it is never 0 there.
-pub fn refused_at_850(dump: &[u32], map: &[u8], unit: u8, atten: u8) -> Decoded {
-    let told = (PROVED.decode)(dump, map, unit, atten);
-    if told.number == 0 && atten == 0 && told.value.coeff_b == 0 { refused(9) } else { told }
+/// What two points give, where a call gets as far as them; none where it goes by Vref.
+fn two_points(dump: &[u32], map: &[u8], unit: u8, atten: u8) -> Option<TwoPoints> {
+    let used = bits(dump, map, 1) == 1 && (2..6).all(|k| bits(dump, map, k) != 0);
+    let code = |k| bits(dump, map, k + usize::from(unit));
+    used.then(|| document::two_points(unit.into(), atten.into(), code(2), code(4)))
 }
 
-pub fn underflow_answered(dump: &[u32], map: &[u8], unit: u8, atten: u8) -> Decoded {
+/// b by Vref is never 0.
+pub fn b_of_0_refused(dump: &[u32], map: &[u8], unit: u8, atten: u8) -> Decoded {
     let told = (PROVED.decode)(dump, map, unit, atten);
-    if told.number == 9 { good(LineRecord { vref: 1100, unit: Unit(unit), ..LineRecord::default() }) } else { told }
+    if told.number == 0 && told.value.coeff_b == 0 { refused(9) } else { told }
+}
+
+/// The rule before document 02: 9 wherever t is above 850.
+pub fn offset_passed_over(dump: &[u32], map: &[u8], unit: u8, atten: u8) -> Decoded {
+    let told = (PROVED.decode)(dump, map, unit, atten);
+    let above = || two_points(dump, map, unit, atten).is_some_and(|points| points.t > 850);
+    if told.number == 0 && above() { refused(9) } else { told }
+}
+
+/// A difference that stops at 0, so that t above 850 leaves the offset alone.
+pub fn cut_at_zero(dump: &[u32], map: &[u8], unit: u8, atten: u8) -> Decoded {
+    let mut told = (PROVED.decode)(dump, map, unit, atten);
+    if let Some(points) = two_points(dump, map, unit, atten).filter(|points| told.number == 0 && points.t > 850) {
+        told.value.coeff_b = (points.b + points.t - 850) as u32;
+    }
+    told
+}
+
+/// b as a build without overflow checks has it, whatever its sign.
+pub fn wrapped_around(dump: &[u32], map: &[u8], unit: u8, atten: u8) -> Decoded {
+    let told = (PROVED.decode)(dump, map, unit, atten);
+    let Some(TwoPoints { a, b, .. }) = (told.number == 9).then(|| two_points(dump, map, unit, atten)).flatten() else { return told };
+    let vref = document::vref(bits(dump, map, 0)) as u32;
+    good(LineRecord { coeff_a: a as u32, coeff_b: b as u32, vref, unit: Unit(unit), use_lut: u8::from(atten == 3) })
 }
 
 pub fn refusal_with_vref(dump: &[u32], map: &[u8], unit: u8, atten: u8) -> Decoded {

@@ -63,9 +63,13 @@ faults! {
     }
     "decoding by two points" {
         "the codes are plain two's complement": decode = decode::plain_twos_complement,
-        "9 is given from t 850 on": decode = decode::refused_at_850,
-        "an underflow is answered": decode = decode::underflow_answered,
+        "a b of 0 is refused": decode = decode::b_of_0_refused,
+        "a negative b is answered, wrapped around": decode = decode::wrapped_around,
         "a refused record has its vref": decode = decode::refusal_with_vref,
+    }
+    "answers of firmware" {
+        "9 is given wherever t is above 850": decode = decode::offset_passed_over,
+        "850 less t stops at zero": decode = decode::cut_at_zero,
     }
     "decoding with faults" {
         "7 is asked for before 1": decode = decode::unit_before_dump,

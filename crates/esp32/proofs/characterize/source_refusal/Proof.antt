@@ -10,17 +10,16 @@ use Rattle.esp32.proofs.characterize.source_refusal.Tie as tie
 enum-known-source : tie.Need-enum-known-source
 enum-known-source c = search needs
 
-efuse-tp-low-requires : tie.Need-efuse-tp-low-requires
-efuse-tp-low-requires c κs = in-bits (c .before .source .given .1) (c .before .before .before .pre) .0
-
 efuse-tp-high-requires : tie.Need-efuse-tp-high-requires
-efuse-tp-high-requires c κs = in-bits (c .before .before .source .given .1) (c .before .before .before .before .pre) .1
+efuse-tp-high-requires c κs = in-bits (c .before .source .given .1) (c .before .before .before .pre .2) .1
 
-top-requires : tie.Need-top-requires
-top-requires c κs = rw (c .before .efuse-tp-low .ensures, c .efuse-tp-high .ensures) (points-apart _ _ _)
+efuse-tp-low-requires : tie.Need-efuse-tp-low-requires
+efuse-tp-low-requires c κs = in-bits (c .before .before .source .given .1) (c .before .before .before .before .pre .2) .0
 
-top-refusal-requires : tie.Need-top-refusal-requires
-top-refusal-requires c κs = search needs
+two-point-refusal-requires : tie.Need-two-point-refusal-requires
+two-point-refusal-requires c κs =
+    let k = c .before .before .before .before .before .pre in
+    rw (c .efuse-tp-low .ensures, c .before .efuse-tp-high .ensures) (k .0, k .1, points-apart _ _ _)
 
 enum-told : tie.Need-enum-told
 enum-told c = search needs
@@ -28,12 +27,11 @@ enum-told c = search needs
 returns : tie.Need-returns
 unfolding sourceRefusal
 returns c =
-    let p = c .before .before .before in
+    let p = c .before .before in
     rw (
-      c .top-refusal .ensures,
-      c .before .top .ensures,
-      c .before .before .efuse-tp-high .ensures,
-      p .efuse-tp-low .ensures,
+      c .two-point-refusal .ensures,
+      c .before .efuse-tp-low .ensures,
+      p .efuse-tp-high .ensures,
       p .before .before .source .given .1,
     )
 
@@ -46,10 +44,9 @@ source-refusal-spec =
     tie.close
     (tie.spec
     enum-known-source
-    efuse-tp-low-requires
     efuse-tp-high-requires
-    top-requires
-    top-refusal-requires
+    efuse-tp-low-requires
+    two-point-refusal-requires
     enum-told
     returns
     returns-2)

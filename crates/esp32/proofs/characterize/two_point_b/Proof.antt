@@ -1,20 +1,17 @@
--- `esp32::two_point_b` meets its contract: what isn't refused is at most 850. Assumes nothing.
-use mathlib.Core.Path.{refl}
+-- `esp32::two_point_b` meets its contract: where b isn't refused, 850 and the offset are at least t. Assumes nothing.
 use borrow.Author.Needs.{needs}
-use Rattle.esp32.specs.Characterize.{twoPointB}
-use Rattle.esp32.proofs.Coefficients.{top-within}
+use Rattle.esp32.proofs.Coefficients.{b-within, two-point-b-is}
 use Rattle.esp32.proofs.characterize.two_point_b.Statement.{statement}
 use Rattle.esp32.proofs.characterize.two_point_b.Tie as tie
-
-sub-result : tie.Need-sub-result
-sub-result c = top-within _ (c .pre .0)
 
 add-result : tie.Need-add-result
 add-result c = search needs
 
+sub-result : tie.Need-sub-result
+sub-result c = b-within _ _ (c .pre .0)
+
 returns : tie.Need-returns
-unfolding twoPointB
-returns c = refl
+returns c = two-point-b-is _ _ (c .pre .0)
 
 pub two-point-b-spec : {M : Type 1} → statement M
-two-point-b-spec = tie.close (tie.spec sub-result add-result returns)
+two-point-b-spec = tie.close (tie.spec add-result sub-result returns)

@@ -37,7 +37,8 @@ source-requires c κs = decoding-good _ _ _ _ _ _ (accepted c) .0
 
 source-refusal-requires : tie.Need-source-refusal-requires
 source-refusal-requires c κs =
-    rw (c .source .ensures) (source-in-bits _ _ _ (decoding-good _ _ _ _ _ _ (accepted (c .before)) .0) _)
+    let good = decoding-good _ _ _ _ _ _ (accepted (c .before)) in
+    rw (c .source .ensures) (good .1 .0, good .1 .1, source-in-bits _ _ _ (good .0) _)
 
 returns-2 : tie.Need-returns-2
 returns-2 c = decode-refused _ _ _ _ _ (number (c .before)) (c .if2 .taken)
