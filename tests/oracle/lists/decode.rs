@@ -58,7 +58,8 @@ fn limit_cases(noise: &mut Noise) -> Vec<Case> {
             let points = |high: &u32| document::two_points(unit.into(), atten.into(), low, *high);
             let above = falling.partition_point(|high| points(high).t <= 850);
             let negative = falling.partition_point(|high| points(high).b >= 0);
-            let beside = [above, negative].into_iter().filter(|first| *first < falling.len()).flat_map(|first| [first - 1, first]);
+            let beside =
+                [above, negative].into_iter().filter(|first| *first < falling.len()).flat_map(|first| [first - 1, first]);
             let places: BTreeSet<usize> = beside.collect();
             cases.extend(places.into_iter().map(|place| (codes.with(unit, low, falling[place]), unit, atten)));
         }

@@ -69,7 +69,9 @@ pub fn cut_at_zero(dump: &[u32], map: &[u8], unit: u8, atten: u8) -> Decoded {
 /// b as a build without overflow checks has it, whatever its sign.
 pub fn wrapped_around(dump: &[u32], map: &[u8], unit: u8, atten: u8) -> Decoded {
     let told = (PROVED.decode)(dump, map, unit, atten);
-    let Some(TwoPoints { a, b, .. }) = (told.number == 9).then(|| two_points(dump, map, unit, atten)).flatten() else { return told };
+    let Some(TwoPoints { a, b, .. }) = (told.number == 9).then(|| two_points(dump, map, unit, atten)).flatten() else {
+        return told;
+    };
     let vref = document::vref(bits(dump, map, 0)) as u32;
     good(LineRecord { coeff_a: a as u32, coeff_b: b as u32, vref, unit: Unit(unit), use_lut: u8::from(atten == 3) })
 }
