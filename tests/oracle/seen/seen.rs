@@ -71,31 +71,60 @@ fn two_point() {
     }
 }
 
-/// What the two builds make of every pair of codes that aren't zero, by unit and attenuation: those that the checked build panics at,
-/// and of them those where a plain build's b comes back from below zero, and those where it stays wrapped around, above any record's.
+/// What the two builds make of every pair of codes that aren't zero, by unit and attenuation.
 fn underflows() {
-    let pairs = || (1..128).flat_map(|low| (1..512).map(move |high| (low, high)));
     for (unit, atten) in (0..2).flat_map(|unit| (0..4).map(move |atten| (unit, atten))) {
-        let (mut good, mut back, mut wrapped, mut codes) = (Vec::new(), Vec::new(), 0, Vec::new());
-        for (low, high) in pairs() {
-            let (dump, map) = dump_and_map(MapChip::Esp32, &[0, 1, low, low, high, high]);
-            let plain = line::decode_plain(&dump, &map, unit, atten).expect("a plain build doesn't panic").coeff_b;
-            match line::decode(&dump, &map, unit, atten) {
-                Ok(_) => good.push(plain),
-                Err(_) => {
-                    codes.push((document::two_point_code(low, 64), document::two_point_code(high, 256)));
-                    if plain <= 4095 { back.push(plain) } else { wrapped += 1 }
-                }
-            }
-        }
-        let (low, high) = (codes.iter().map(|(low, _)| low).min(), codes.iter().map(|(_, high)| high).max());
-        println!(
-            "two-point: unit {unit}, attenuation {atten}: {} pairs panic, low codes from {low:?}, high codes to {high:?}",
-            codes.len()
-        );
-        println!("  of them in a plain build: b 0 to {:?} for {}, wrapped around for {wrapped}", back.iter().max(), back.len());
-        println!("  the others: {} pairs, b {:?} to {:?}", good.len(), good.iter().min(), good.iter().max());
+        let mut pairs = Pairs::default();
+        (1..128)
+            .flat_map(|low| (1..512).map(move |high| (low, high)))
+            .for_each(|(low, high)| pairs.see(unit, atten, low, high));
+        let Pairs { good, back, wrapped, low, high, lowest } = pairs;
+        println!("two-point: unit {unit}, attenuation {atten}: no panic: {} pairs, b {}", good.len(), range(&good));
+        println!("  panic: {} pairs, low codes from {low}, high codes to {high}", back.len() + wrapped);
+        println!("  of them in a plain build: b {} for {}, wrapped around for {wrapped}", range(&back), back.len());
+        println!("  wrapped around: up to {lowest} counts, the lowest, read above 65,000 mV, and no other above 4,095");
     }
+}
+
+/// Pairs of codes: b where the checked build has an answer; where it panics, b that a plain build brings back from below zero, and how
+/// many stay wrapped around, above any record's.
+#[derive(Default)]
+struct Pairs {
+    good: Vec<u32>,
+    back: Vec<u32>,
+    wrapped: usize,
+    /// The lowest low code and the highest high one at which the checked build panics.
+    low: i32,
+    high: i32,
+    /// How many of the lowest counts such a plain build reads as a voltage that can't be.
+    lowest: usize,
+}
+
+impl Pairs {
+    fn see(&mut self, unit: u8, atten: u8, low: u32, high: u32) {
+        let (dump, map) = dump_and_map(MapChip::Esp32, &[0, 1, low, low, high, high]);
+        let plain = line::decode_plain(&dump, &map, unit, atten).expect("a plain build doesn't panic");
+        if line::decode(&dump, &map, unit, atten).is_ok() {
+            return self.good.push(plain.coeff_b);
+        }
+        let first = self.back.is_empty() && self.wrapped == 0;
+        let (low, high) = (document::two_point_code(low, 64), document::two_point_code(high, 256));
+        (self.low, self.high) = if first { (low, high) } else { (self.low.min(low), self.high.max(high)) };
+        if plain.coeff_b <= 4095 {
+            return self.back.push(plain.coeff_b);
+        }
+        self.wrapped += 1;
+        let table = line::table_plain(plain).expect("a plain build doesn't panic");
+        let below = table.partition_point(|mv| *mv > 65_000);
+        assert!(table[below..].iter().all(|mv| *mv <= 4095), "only the lowest counts are wrapped around");
+        self.lowest = self.lowest.max(below);
+    }
+}
+
+/// From the least to the largest.
+fn range(numbers: &[u32]) -> String {
+    let ends = numbers.iter().min().zip(numbers.iter().max());
+    ends.map_or("none".into(), |(least, largest)| format!("{least} to {largest}"))
 }
 
 fn s2_units() {
