@@ -19,6 +19,7 @@ module _ (words : ℕ → ℕ) (dump map : List ℕ) (unit atten : ℕ) where
   exact-sum r e t =
       let two = source-two-point dump map unit t in
       let none : decodeRefusal words dump map unit atten ≡ 0 = sym (number-of-says words dump map unit atten) ∙ ap numberOf e in
-      let same : r ≡ decodedRecord dump map unit atten = sym (ap valueOf e) ∙ decode-says words dump map unit atten .value-is ∙ byNumber-good _ _ _ none in
+      let same : r ≡ decodedRecord dump map unit atten =
+      sym (ap valueOf e) ∙ decode-says words dump map unit atten .value-is ∙ byNumber-good _ _ _ none in
       let good = decode-good words dump map unit atten none .2 in
       rw (same, two) (two-point-b-exact _ _ (rw two at good))

@@ -8,7 +8,8 @@ use vref::coefficients::vref_line;
 ghost use mathlib.Core.Path.{_≡_};
 ghost use Prim.Native.Nat.{_≤_, _<_};
 ghost use Rattle.esp32.specs.Private.{Apart, InBits, tpAttenOf};
-ghost use Rattle.esp32.specs.Characterize.{twoPointA, topOf, bRefusal, twoPointB, twoPointLine, twoPointRefusal, coefficientsOf, sourceRefusal};
+ghost use Rattle.esp32.specs.Characterize.{tpScale, tpOffset, twoPointA, topOf, bRefusal, twoPointB, twoPointLine, twoPointRefusal};
+ghost use Rattle.esp32.specs.Characterize.{coefficientsOf, sourceRefusal};
 
 const TP_LOW_VOLTAGE: u32 = 150;
 
@@ -37,6 +38,14 @@ fn tp_atten(k: u8) -> Atten
         6 => Atten(120416, 26),
         _ => Atten(224708, 66),
     }
+}
+
+// The scale and the offset of a unit at an attenuation.
+fn tp_entry(unit: u8, atten: u8) -> Atten
+    requires { ⌜ (unit ≤ 1) × (atten ≤ 3) ⌝ }
+    ensures { λ r. ⌜ (r .0 ≡ tpScale unit atten) × (r .1 ≡ tpOffset unit atten) ⌝ }
+{
+    tp_atten(ATTENUATIONS * unit + atten)
 }
 
 // Document 01's t: b is 850 less t, and the offset.
@@ -81,7 +90,7 @@ fn characterize_using_two_point(unit: u8, atten: u8, high: u32, low: u32) -> Coe
     requires { ⌜ (unit ≤ 1) × (atten ≤ 3) × Apart low high × (twoPointRefusal unit atten low high ≡ 0) ⌝ }
     ensures { λ r. ⌜ r ≡ twoPointLine unit atten low high ⌝ }
 {
-    let entry = tp_atten(ATTENUATIONS * unit + atten);
+    let entry = tp_entry(unit, atten);
     let scale = entry.0;
     let offset = entry.1;
     Coefficients {
@@ -95,7 +104,7 @@ fn two_point_refusal(unit: u8, atten: u8, high: u32, low: u32) -> u8
     requires { ⌜ (unit ≤ 1) × (atten ≤ 3) × Apart low high ⌝ }
     ensures { λ r. ⌜ r ≡ twoPointRefusal unit atten low high ⌝ }
 {
-    let entry = tp_atten(ATTENUATIONS * unit + atten);
+    let entry = tp_entry(unit, atten);
     b_refusal(top(low, high), entry.1)
 }
 
