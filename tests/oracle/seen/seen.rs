@@ -1,4 +1,6 @@
 //! Each difference at its smallest input, and what the crate's answers are like.
+use std::fmt::Display;
+
 use oracle::curve::{self, Chip};
 use oracle::fields::{self, Field};
 use oracle::line::{self, Record};
@@ -78,26 +80,26 @@ fn underflows() {
         (1..128)
             .flat_map(|low| (1..512).map(move |high| (low, high)))
             .for_each(|(low, high)| pairs.see(unit, atten, low, high));
-        let Pairs { good, back, wrapped, low, high, lowest } = pairs;
+        let Pairs { good, low, high, back, wrapped } = pairs;
         println!("two-point: unit {unit}, attenuation {atten}: no panic: {} pairs, b {}", good.len(), range(&good));
-        println!("  panic: {} pairs, low codes from {low}, high codes to {high}", back.len() + wrapped);
-        println!("  of them in a plain build: b {} for {}, wrapped around for {wrapped}", range(&back), back.len());
-        println!("  wrapped around: up to {lowest} counts, the lowest, read above 65,000 mV, and no other above 4,095");
+        println!("  panic: {} pairs, low codes {}, high codes {}", low.len(), range(&low), range(&high));
+        println!("  of them in a plain build: b {} for {}, wrapped around for {}", range(&back), back.len(), wrapped.len());
+        println!("  wrapped around: {} of the lowest counts read above 65,000 mV, and no other above 4,095", range(&wrapped));
     }
 }
 
-/// Pairs of codes: b where the checked build has an answer; where it panics, b that a plain build brings back from below zero, and how
-/// many stay wrapped around, above any record's.
+/// What was seen of pairs of codes.
 #[derive(Default)]
 struct Pairs {
+    /// b where the checked build has an answer.
     good: Vec<u32>,
+    /// The codes where it panics.
+    low: Vec<i32>,
+    high: Vec<i32>,
+    /// Of these, b that a plain build brings back from below zero.
     back: Vec<u32>,
-    wrapped: usize,
-    /// The lowest low code and the highest high one at which the checked build panics.
-    low: i32,
-    high: i32,
-    /// How many of the lowest counts such a plain build reads as a voltage that can't be.
-    lowest: usize,
+    /// Of the others, whose b stays wrapped around, how many of the lowest counts read as a voltage that can't be.
+    wrapped: Vec<usize>,
 }
 
 impl Pairs {
@@ -107,22 +109,20 @@ impl Pairs {
         if line::decode(&dump, &map, unit, atten).is_ok() {
             return self.good.push(plain.coeff_b);
         }
-        let first = self.back.is_empty() && self.wrapped == 0;
-        let (low, high) = (document::two_point_code(low, 64), document::two_point_code(high, 256));
-        (self.low, self.high) = if first { (low, high) } else { (self.low.min(low), self.high.max(high)) };
+        self.low.push(document::two_point_code(low, 64));
+        self.high.push(document::two_point_code(high, 256));
         if plain.coeff_b <= 4095 {
             return self.back.push(plain.coeff_b);
         }
-        self.wrapped += 1;
         let table = line::table_plain(plain).expect("a plain build doesn't panic");
-        let below = table.partition_point(|mv| *mv > 65_000);
-        assert!(table[below..].iter().all(|mv| *mv <= 4095), "only the lowest counts are wrapped around");
-        self.lowest = self.lowest.max(below);
+        let lowest = table.partition_point(|mv| *mv > 65_000);
+        assert!(table[lowest..].iter().all(|mv| *mv <= 4095), "only the lowest counts are wrapped around");
+        self.wrapped.push(lowest);
     }
 }
 
 /// From the least to the largest.
-fn range(numbers: &[u32]) -> String {
+fn range<T: Ord + Display>(numbers: &[T]) -> String {
     let ends = numbers.iter().min().zip(numbers.iter().max());
     ends.map_or("none".into(), |(least, largest)| format!("{least} to {largest}"))
 }
