@@ -21,7 +21,7 @@ def changed(place, byte):
 
 
 def two_points(high):
-    """A dump with two-point codes of which ADC1's low one is 63: document 01's marked case 6."""
+    """A dump with two-point codes of which ADC1's low one is 63: the marked case 6."""
     dump = 0
     for (block, start), code in zip(((0, 110), (3, 96), (3, 112), (3, 103), (3, 119)), (1, 63, 1, high, 1)):
         dump |= code << (256 * block + start)
@@ -38,7 +38,7 @@ GIVEN = {
     6: (suongkivat.check_map, Chip.ESP32, changed(4, 6)),
     7: (suongkivat.decode, ZEROS, MAP, 0, 4),
     8: (RECORD.convert, 4096),
-    9: (suongkivat.decode, two_points(0x1BC), MAP, 0, 3),
+    9: (suongkivat.decode, two_points(0x1BC), MAP, 0, 0),
     10: (LineRecord(131072, 142, 1100, 0, True).convert, 4096),
     11: (RECORD.table, 1, 4096),
     12: (s2.init_code, ZEROS, S2_MAP, 0, 0),
@@ -60,7 +60,8 @@ class Refusals(unittest.TestCase):
             self.assertTrue(str(refused).startswith(f"refused {number}: {refused.words}; "), str(refused))
 
     def test_what_isn_t_refused(self):
-        self.assertEqual(suongkivat.decode(two_points(0x1BD), MAP, 0, 3).unit, 0)
+        self.assertEqual([suongkivat.decode(two_points(0x1BD), MAP, 0, at).coeff_b for at in range(4)], [0, 1, 27, 54])
+        self.assertEqual([suongkivat.decode(two_points(0x1BC), MAP, 0, at).coeff_b for at in (1, 2, 3)], [0, 26, 53])
         self.assertEqual([RECORD.convert(count) for count in (0, 2880, 2912, 2944, 4095)], [142, 2462, 2483, 2502, 3134])
         self.assertEqual(len(list(suongkivat.samples(bytes(8)))), 2)
         self.assertIsNone(suongkivat.check_map(Chip.C6, C6_MAP))
