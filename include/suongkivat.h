@@ -191,7 +191,7 @@ SkvOutcome skv_check_map(uint8_t chip, const uint8_t *map, size_t map_len);
 /* ESP32 line calibration. */
 
 /* The line record of a unit at an attenuation.
-   Refusals 1 (dump), 7 (unit or attenuation), the map's, 9 (underflow: at one attenuation, and not at another). */
+   Refusals 1 (dump), 7 (unit or attenuation), the map's, 9 (underflow, at this attenuation). */
 SkvDecoded skv_decode(const uint32_t *dump, size_t dump_len, const uint8_t *map, size_t map_len, uint8_t unit, uint8_t attenuation);
 
 /* Whether a record is inside its ranges.
