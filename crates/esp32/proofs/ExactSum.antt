@@ -3,7 +3,6 @@ use mathlib.Core.Path.{_≡_, sym, _∙_, ap}
 use mathlib.Core.List.{List}
 use Prim.Native.Nat.{ℕ}
 use Rattle.terms.proofs.Refusals.{byNumber-good}
-use Rattle.line_record.specs.declared.record.LineRecord.{LineRecord}
 use Rattle.line_record.specs.Decoded.{numberOf, valueOf}
 use Rattle.esp32.specs.Characterize.{coefficientsOf, sourceRefusal}
 use Rattle.esp32.specs.Decode.{foundOf, decodedRecord, decodeRefusal}

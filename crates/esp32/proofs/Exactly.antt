@@ -29,18 +29,18 @@ module _ (words : ℕ → ℕ) (dump map : List ℕ) (unit atten : ℕ) where
   abbrev input : Exactly (decodingRefusal words Esp32 dump map unit atten) Before
   input = decoding-exactly words Esp32 dump map unit atten
 
-  -- what b's sign says
-  abbrev b-of : ℤ
-  b-of = bFor dump map unit atten
+  -- the unit's b at the attenuation, and the number that its source gives
+  abbrev b : ℤ
+  b = bFor dump map unit atten
 
   abbrev source : ℕ
   source = sourceRefusal unit atten (sourceOf dump map unit)
 
-  source-underflow : twoPointUsed dump map ≡ true → b-of <ℤ pos 0 → source ≡ 9
+  source-underflow : twoPointUsed dump map ≡ true → b <ℤ pos 0 → source ≡ 9
   unfolding sourceRefusal
   source-underflow t h = rw (source-two-point dump map unit t) (b-refused _ _ h)
 
-  source-good : twoPointUsed dump map ≡ true → pos 0 ≤ℤ b-of → source ≡ 0
+  source-good : twoPointUsed dump map ≡ true → pos 0 ≤ℤ b → source ≡ 0
   unfolding sourceRefusal
   source-good t h = rw (source-two-point dump map unit t) (b-good _ _ h)
 

@@ -147,7 +147,7 @@ fn codes(first: u32, units: usize, attens: usize) -> impl Iterator<Item = (u32, 
 /// Every pair of two-point codes that aren't zero, every unit and attenuation. The checked build gives the formulas' record, or panics,
 /// exactly where t is above 850; a plain build gives them all, with b as 32 bits hold it: the exact sum, unless that is negative.
 fn two_point() -> u64 {
-    let mut checked = Tally::new("two-point decoding, checked build");
+    let mut checked = Tally::new("two-point decoding");
     let mut plain = Tally::new("two-point decoding, plain build");
     for (pair, unit, atten) in codes(128 * 512, 2, 4) {
         let (low, high) = (pair / 512, pair % 512);

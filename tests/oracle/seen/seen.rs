@@ -67,7 +67,7 @@ fn two_point() {
         let (dump, map) = dump_and_map(MapChip::Esp32, &[0, 1, 63, 63, high, high]);
         let plain = line::decode_plain(&dump, &map, 0, atten);
         println!("two-point: unit 0, low code 63, high code {high:#X}, attenuation {atten}:");
-        println!("  checked build: {:?}", line::decode(&dump, &map, 0, atten));
+        println!("  this build: {:?}", line::decode(&dump, &map, 0, atten));
         println!("  plain build: {plain:?}");
         println!("  plain build, at raw 0: {:?}", plain.and_then(line::table_plain).map(|table| table[0]));
     }
