@@ -1,8 +1,8 @@
 /* Suongkivat for C: raw ADC counts of ESP32 boards and their kin into millivolts.
 
    Answers. Each call answers any input, and either gives its values or is turned down with a number of the table below; a refusal has
-   zeros for values, and leaves lent memory as it was. Number 0 is no refusal. The calls are proved to give exactly the answers of the
-   definitions in crates/, for whatever is handed in.
+   zeros for values, and leaves lent memory as it was. Number 0 is no refusal. A refusal of a map also tells which of its records is bad.
+   The calls are proved to give exactly the answers of the definitions in crates/, for whatever is handed in.
 
    Memory. A length counts elements: words of a dump, bytes of a map or a log, numbers of a list. What the proof takes for granted of a
    caller is that each pointer has the length beside it in readable memory (writable for bytes and millivolts), and that no lent memory
@@ -24,9 +24,9 @@ extern "C" {
 
 /* The version of this header and its library. The first number changes where a caller has to be changed or compiled anew, the second
    where something was added. */
-#define SKV_VERSION_MAJOR 1
+#define SKV_VERSION_MAJOR 2
 #define SKV_VERSION_MINOR 0
-#define SKV_VERSION "1.0"
+#define SKV_VERSION "2.0"
 
 /* Lengths, in elements. */
 enum {
@@ -38,12 +38,13 @@ enum {
     SKV_COUNTS = 4096     /* counts are 0 to 4095: a table of all their millivolts */
 };
 
-/* Why a call was turned down. A call that takes a map gives 2, then for each record from first to last 3, 4, 5, 6: "the map's" below. */
+/* Why a call was turned down. A call that takes a map gives 2, then for each record from first to last 3, 18, 4, 5, 6: "the map's"
+   below. */
 enum {
     SKV_NONE = 0,         /* it wasn't */
     SKV_DUMP = 1,         /* the dump hasn't 88 words */
     SKV_MAP = 2,          /* the map's length isn't its chip's */
-    SKV_MAP_RECORD = 3,   /* a map record's id or a zero byte is wrong */
+    SKV_MAP_ID = 3,       /* a map record's id isn't that of its place */
     SKV_BLOCK = 4,        /* block above 10 */
     SKV_BIT_RANGE = 5,    /* bit start above 255, or start + count above 256 */
     SKV_BIT_COUNT = 6,    /* a map record's bit count isn't its id's */
@@ -56,7 +57,8 @@ enum {
     SKV_LINE_ANSWER = 13, /* line answer above 4095 given to the curve */
     SKV_CURVE = 14,       /* no curve for that chip and unit */
     SKV_BOARD = 15,       /* board above 1, or a sample's last byte above 7 */
-    SKV_LOG = 16          /* log ends inside a record */
+    SKV_LOG = 16,         /* log ends inside a record */
+    SKV_MAP_BYTE = 18     /* a byte among a map record's last three isn't zero */
 };
 
 /* The chips. Maps are those of ESP32, S2 and C6. */
@@ -72,8 +74,12 @@ enum {
     SKV_S3 = 8
 };
 
+/* A refusal's number, or SKV_NONE. Where a call that takes a map gives 3, 18, 4, 5 or 6, record is the number of the map's first bad
+   record, from 0; at 18 place is that of its first byte that should be zero and isn't: 5, 6 or 7. Else both are 0. */
 typedef struct SkvRefusal {
     uint8_t number;
+    uint8_t record;
+    uint8_t place;
 } SkvRefusal;
 
 /* A raw reading of the converter, and a voltage: two types, so that neither is taken for the other. */
