@@ -54,7 +54,7 @@ pub struct SkvReading {
 pub fn refusal_c(number: u8) -> SkvRefusal
     ensures { λ r. ⌜ r ≡ refusalC number ⌝ }
 {
-    SkvRefusal { number }
+    Skvrefusal::plain(number)
 }
 
 // What C is given of an outcome.

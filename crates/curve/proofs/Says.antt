@@ -3,7 +3,7 @@ use Prim.Native.Nat.{ℕ}
 use Rattle.terms.specs.declared.chip.Chip.{Chip}
 use Rattle.terms.specs.declared.quantity.Millivolt.{Millivolt}
 use Rattle.terms.specs.Says.{Says}
-use Rattle.terms.specs.Voltage.{numberOf, valueOf}
+use Rattle.terms.specs.Voltage.{refusalOf, valueOf}
 use Rattle.terms.proofs.Says.{voltage-says}
 use Rattle.curve.specs.Table.{tableOf}
 use Rattle.curves.specs.Curves.{curveIn}
@@ -12,7 +12,7 @@ use Rattle.curve.specs.Correct.{correctRefusal, correctOf}
 
 -- `correct`
 pub correct-says : (chip : Chip) (unit atten : ℕ) (line : Millivolt)
-    → Says numberOf valueOf (record { 0 = 0 })
+    → Says refusalOf valueOf (record { 0 = 0 })
     (correctOf chip unit atten line) (correctRefusal chip unit atten line)
     (record { 0 = correctedOf (curveIn (tableOf chip unit) atten) (line .0) })
 unfolding correctOf

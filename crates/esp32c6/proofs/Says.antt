@@ -15,13 +15,13 @@ use Rattle.terms.specs.C6Version.{versionOf}
 
 module _ (words : ℕ → ℕ) (dump map : List ℕ) (minor unit atten : ℕ) where
   -- `rtc_calib_init_code`
-  pub init-code-says : Says code.numberOf code.valueOf 0
+  pub init-code-says : Says code.refusalOf code.valueOf 0
       (initCodeOf words dump map minor unit atten) (codeRefusal words dump map minor unit atten) (valueById C6 dump map (9 + atten) + 1600)
   unfolding initCodeOf
   init-code-says = code-says _ _
 
   -- `rtc_calib_cal_code`
-  pub cal-code-says : Says code.numberOf code.valueOf 0
+  pub cal-code-says : Says code.refusalOf code.valueOf 0
       (calCodeOf words dump map minor unit atten) (codeRefusal words dump map minor unit atten)
       (natAbs (calCode (versionOf minor) atten (valueById C6 dump map (13 + atten))))
   unfolding calCodeOf
@@ -29,7 +29,7 @@ module _ (words : ℕ → ℕ) (dump map : List ℕ) (minor unit atten : ℕ) wh
 
 -- `rtc_calib_get_chan_compens`
 pub compens-says : (words : ℕ → ℕ) (dump map : List ℕ) (unit channel atten : ℕ)
-    → Says reading.numberOf reading.valueOf (pos 0)
+    → Says reading.refusalOf reading.valueOf (pos 0)
     (chanCompensOf words dump map unit channel atten) (decodingRefusal words C6 dump map unit atten)
     (compensOf atten (valueById C6 dump map (17 + min channel 6)))
 unfolding chanCompensOf

@@ -15,23 +15,23 @@ use Rattle.esp32s2.specs.Version as version
 use Rattle.esp32s2.specs.Encryption.{oddOnes, flashEncryptionOf}
 use Rattle.esp32s2.specs.Version.{versionOf, calibVersionOf}
 
-version-paper : Paper version.numberOf version.valueOf 0 Version No-version
+version-paper : Paper version.refusalOf version.valueOf 0 Version No-version
 version-paper =
-    record { good-number = λ v. refl; good-value = λ v. refl; refused-number = λ r. refl; refused-value = λ r. refl }
+    record { good-refusal = λ v. refl; good-value = λ v. refl; refused-refusal = λ r. refl; refused-value = λ r. refl }
 
-encryption-paper : Paper encryption.numberOf encryption.valueOf false Encryption No-encryption
+encryption-paper : Paper encryption.refusalOf encryption.valueOf false Encryption No-encryption
 encryption-paper =
-    record { good-number = λ v. refl; good-value = λ v. refl; refused-number = λ r. refl; refused-value = λ r. refl }
+    record { good-refusal = λ v. refl; good-value = λ v. refl; refused-refusal = λ r. refl; refused-value = λ r. refl }
 
 module _ (words : ℕ → ℕ) (dump map : List ℕ) where
   -- `rtc_calib_version`
-  pub version-says : Says version.numberOf version.valueOf 0
+  pub version-says : Says version.refusalOf version.valueOf 0
       (calibVersionOf words dump map) (fieldsRefusal words S2 dump map) (versionOf dump map)
   unfolding calibVersionOf
   version-says = says version-paper _ _
 
   -- `flash_encryption`
-  pub encryption-says : Says encryption.numberOf encryption.valueOf false
+  pub encryption-says : Says encryption.refusalOf encryption.valueOf false
       (flashEncryptionOf words dump map) (fieldsRefusal words S2 dump map) (oddOnes (valueById S2 dump map 8))
   unfolding flashEncryptionOf
   encryption-says = says encryption-paper _ _

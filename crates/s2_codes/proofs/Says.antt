@@ -3,7 +3,7 @@ use mathlib.Core.Bool.{false}
 use mathlib.Core.List.{List}
 use Prim.Native.Nat.{ℕ}
 use lib.IntN.{natAbs}
-use Rattle.terms.specs.Code.{numberOf, valueOf}
+use Rattle.terms.specs.Code.{refusalOf, valueOf}
 use Rattle.terms.specs.Says.{Says}
 use Rattle.terms.proofs.Says.{code-says as code-given}
 use Rattle.s2_readings.specs.declared.tag.RtcCalibParam.{RtcCalibParam}
@@ -13,7 +13,7 @@ use Rattle.s2_codes.specs.Code.{codeRefusal, codeOf}
 
 -- `rtc_calib_init_code` and `rtc_calib_cal_code`, by the parameter
 pub code-says : (words : ℕ → ℕ) (dump map : List ℕ) (unit atten : ℕ) (param : RtcCalibParam)
-    → Says numberOf valueOf 0
+    → Says refusalOf valueOf 0
     (codeOf words dump map unit atten param) (codeRefusal words dump map unit atten)
     (natAbs (readingOf dump false (tagOf 2 unit atten param)))
 unfolding codeOf

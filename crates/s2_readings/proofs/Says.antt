@@ -14,14 +14,14 @@ use Rattle.s2_readings.specs.Tag.{tagOf}
 module _ (version unit atten : ℕ) (param : RtcCalibParam) where
   -- `rtc_calib_reading`
   pub reading-says : (dump : List ℕ)
-      → Says reading.numberOf reading.valueOf (pos 0)
+      → Says reading.refusalOf reading.valueOf (pos 0)
       (calibReadingOf dump version unit atten param) (readingRefusal dump unit atten)
       (readingOf dump false (tagOf version unit atten param))
   unfolding calibReadingOf
   reading-says dump = reading-given _ _
 
   -- `rtc_calib_reading_skipped`
-  pub skipped-says : Says reading.numberOf reading.valueOf (pos 0)
+  pub skipped-says : Says reading.refusalOf reading.valueOf (pos 0)
       (skippedReadingOf version unit atten param) (unitRefusal unit atten) (readingOf [] true (tagOf version unit atten param))
   unfolding skippedReadingOf
   skipped-says = reading-given _ _
