@@ -10,11 +10,13 @@ use borrow.Author.Tests.{eq-eqb, ne-eqb}
 use Rattle.terms.specs.declared.chip.MapChip.{MapChip}
 use Rattle.terms.specs.declared.refusal.Refusal.{Refusal}
 use Rattle.terms.specs.Exactly.{Exactly}
-use Rattle.terms.specs.Refusal.{firstOf, plain}
+use Rattle.terms.specs.Refusal.{firstOf, plain, told}
+use Rattle.terms.specs.Says.{Says}
 use Rattle.terms.specs.When.{fault, no-fault}
 use Rattle.terms.proofs.Exactly.{case, first-fault}
 use Rattle.terms.proofs.Order.{whether, equal-or}
-use Rattle.terms.proofs.Refusals.{or-none, Passed, first-stop, first-none}
+use Rattle.terms.proofs.Refusals.{or-none, told-good, number-is, Passed, first-stop, first-none}
+use Rattle.terms.proofs.Says.{Paper, told-says}
 use Rattle.efuse.specs.When.{bad-block, bad-bits, good-place}
 use Rattle.maps.specs.Map.{recordByte, strayOf, idsOf, mapRecordRefusals, mapRefusal}
 use Rattle.maps.specs.Told.{ofRecord, badRecord, toldFrom, toldOf, ToldWhen}
@@ -76,9 +78,39 @@ module _ (words : ℕ → ℕ) (map : List ℕ) where
   not-zeros (good-record s p l u) e = absurd (omega arith)
 
   module _ (chip : MapChip) where
-    -- a number that is of no record tells 0 and 0
+    -- it has its number, and one that is of no record tells 0 and 0
+    pub told-number : (n : ℕ) → toldOf words chip map n .number ≡ n
+    unfolding toldOf
+    told-number n = refl
+
     pub told-plain : {n : ℕ} → ofRecord n ≡ false → toldOf words chip map n ≡ plain n
+    unfolding toldOf
     told-plain {n} e = let p = or-none (leb 3 n && leb n 6) (eqb n 18) e in rw (e, p .1)
+
+    pub told-none : (n : ℕ) → toldOf words chip map n .number ≡ 0 → toldOf words chip map n ≡ plain 0
+    told-none n e = ap (toldOf words chip map) (sym (told-number n) ∙ e) ∙ told-plain refl
+
+    -- as a `return` asks it: of a plain refusal, and of one that comes from a call on the same map
+    pub told-as : {why : Refusal} {n number : ℕ} → why ≡ plain n → ofRecord n ≡ false → number ≡ n → why ≡ toldOf words chip map number
+    told-as p e h = p ∙ sym (told-plain e) ∙ ap (toldOf words chip map) (sym h)
+
+    pub told-same : {why : Refusal} {n number : ℕ} → why ≡ toldOf words chip map n → number ≡ n → why ≡ toldOf words chip map number
+    told-same p h = p ∙ ap (toldOf words chip map) (sym h)
+
+    -- what a caller knows of the number
+    pub told-is-number : {why : Refusal} {n : ℕ} → why ≡ toldOf words chip map n → why .number ≡ n
+    told-is-number e = number-is e ∙ told-number _
+
+    -- which case an answer is where nothing is refused
+    pub map-good : {A : Type 0} (good : A) (refused : Refusal → A) {number : ℕ} {answer : A} → number ≡ 0 → answer ≡ good
+        → answer ≡ told (toldOf words chip map number) good refused
+    map-good good refused e h = told-good _ good refused (told-number _ ∙ e) h
+
+    -- and what it says
+    pub map-says : {A B : Type 0} {refusal : A → Refusal} {value : A → B} {zeros : B} {good : B → A} {refused : Refusal → A}
+        → Paper refusal value zeros good refused → (number : ℕ) (v : B)
+        → Says refusal value zeros (told (toldOf words chip map number) (good v) refused) (toldOf words chip map number) v
+    map-says paper number v = told-says paper _ (told-none number) v
 
     bad-is : {n k : ℕ} → FirstBad words chip map n k → badRecord words map (idsOf chip .first) (idsOf chip .len) ≡ k
     bad-is f = first-fault (λ k. record-exactly words map (idsOf chip .first + k) k) (idsOf chip .len) f .1
@@ -88,6 +120,7 @@ module _ (words : ℕ → ℕ) (map : List ℕ) where
 
     -- a refusal that tells so is the definition's
     told-is : {r : Refusal} → Tells words chip map r → toldOf words chip map (r .number) ≡ r
+    unfolding toldOf
     told-is (byte f b) = rw (bad-is f, byte-is b)
     told-is (a-record f h) = rw (bad-is f, of-record f, ne-eqb _ _ h)
     told-is (no-record e) = told-plain e
@@ -104,8 +137,8 @@ module _ (words : ℕ → ℕ) (map : List ℕ) where
         let t : Tells words chip map (record { number = n; «record» = k; place = 0 }) = a-record f h in
         rw (← told-is t) at t)
 
-    tells-plain : {n : ℕ} → ofRecord n ≡ false → Tells words chip map (toldOf words chip map n)
-    tells-plain {n} e = let t : Tells words chip map (plain n) = no-record e in rw (← told-plain e) at t
+    tells-plain : (n : ℕ) → ofRecord n ≡ false → Tells words chip map (toldOf words chip map n)
+    tells-plain n e = let t : Tells words chip map (plain n) = no-record e in rw (← told-plain e) at t
 
     tells-map : {n : ℕ} → MapWhen words chip map n → ofRecord n ≡ true → Tells words chip map (toldOf words chip map n)
     tells-map (bad-length h) t = absurd (true≢false (sym t))
@@ -116,11 +149,12 @@ module _ (words : ℕ → ℕ) (map : List ℕ) where
     module _ {When : ℕ → Type 0} {number : ℕ} (given : Exactly number When)
         (of-map : (n : ℕ) → When n → ofRecord n ≡ true → MapWhen words chip map n) where
       tells : ToldWhen words chip map When (toldOf words chip map number)
+      unfolding toldOf
       tells = (
         case given,
         whether (ofRecord number)
             (λ t. tells-map (of-map number (case given) t) t)
-            (λ t. tells-plain t),
+            (λ t. tells-plain number t),
       )
 
       pub told-exactly : Exactly (toldOf words chip map number) (ToldWhen words chip map When)

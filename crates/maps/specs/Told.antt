@@ -30,7 +30,7 @@ toldFrom words map first len number =
     }
 
 -- what a call on a chip's map tells with a number
-abbrev pub toldOf : (ℕ → ℕ) → MapChip → List ℕ → ℕ → Refusal
+unfoldable pub toldOf : (ℕ → ℕ) → MapChip → List ℕ → ℕ → Refusal
 toldOf words chip map number = toldFrom words map (idsOf chip .first) (idsOf chip .len) number
 
 -- The same as a statement, without the definition. "5, 6 or 7, the first such": the place of a record's first nonzero byte

@@ -4,6 +4,7 @@ use mathlib.Core.Path.{_∙_}
 use Prim.Native.Nat.{_+_, _≤_}
 use native.Mathlib.Omega.{arith}
 use borrow.Author.Needs.{needs}
+use Rattle.maps.specs.Told.{toldOf}
 use Rattle.maps.proofs.Maps.{ids-in-table, map-length, map-records}
 use Rattle.maps.proofs.map.map_refusal.Statement.{statement}
 use Rattle.maps.proofs.map.map_refusal.Tie as tie
@@ -21,12 +22,14 @@ plain-requires : tie.Need-plain-requires
 plain-requires c κs = search needs
 
 returns : tie.Need-returns
+unfolding toldOf
 returns c = c .plain .ensures ∙ rw (← map-length _ _ _ (c .before .before .ids-of .ensures) (c .before .if1 .taken))
 
 first-refusal-requires : tie.Need-first-refusal-requires
 first-refusal-requires c κs = in-table (c .before)
 
 returns-2 : tie.Need-returns-2
+unfolding toldOf
 returns-2 c =
     let ids = c .before .before .ids-of .ensures in
     c .first-refusal .ensures ∙ rw (map-records _ _ _ ids (c .before .if1 .left), ids)
