@@ -28,9 +28,9 @@ module _ (words : ℕ → ℕ) (dump map : List ℕ) (unit atten : ℕ) where
   decoding = decodeRefusal words dump map unit atten
 
   -- which case a decoding's refusal is
-  pub decode-input : {n : ℕ} → n ≡ input → (n ≡ 0 → ⊥) → n ≡ decoding
+  pub decode-input : {why : Refusal} → why ≡ toldOf words Esp32 map input → (why .number ≡ 0 → ⊥) → why ≡ toldOf words Esp32 map decoding
   unfolding decodeRefusal
-  decode-input e h = rw (← e) (sym (orElse-some _ _ h))
+  decode-input e h = told-same words map Esp32 e (orElse-some _ _ (λ z. h (told-is-number words map Esp32 e ∙ z)))
 
   pub decode-source : input ≡ 0 → {source : Source} → source ≡ sourceOf dump map unit
       → {n : ℕ} → n ≡ sourceRefusal unit atten source → n ≡ decoding
@@ -47,14 +47,15 @@ module _ (words : ℕ → ℕ) (dump map : List ℕ) (unit atten : ℕ) where
       (good .0, good .1, p .1)
 
   -- which case a decoding is, as a `return` asks it
-  pub decode-refused : {n : ℕ} → n ≡ decoding → (n ≡ 0 → ⊥) → Refused (record { number = n }) ≡ decodeOf words dump map unit atten
+  pub decode-refused : {why : Refusal} → why ≡ toldOf words Esp32 map decoding → (why .number ≡ 0 → ⊥)
+      → Refused why ≡ decodeOf words dump map unit atten
   unfolding decodeOf
-  decode-refused e h = rw (← e) (sym (byNumber-refused _ _ _ h))
+  decode-refused e h = told-refused _ _ Refused e h
 
   pub decode-record : {r : LineRecord} → decoding ≡ 0 → r ≡ decodedRecord dump map unit atten
       → Record r ≡ decodeOf words dump map unit atten
   unfolding decodeOf
-  decode-record e r = sym (byNumber-good _ _ _ e ∙ ap Record (sym r))
+  decode-record e r = map-good words map Esp32 _ Refused e (ap Record r)
 
   -- what is decoded passes the record check
   pub decoded-passes : decoding ≡ 0 → recordRefusal (decodedRecord dump map unit atten) ≡ 0
