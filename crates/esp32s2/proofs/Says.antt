@@ -5,9 +5,11 @@ use mathlib.Core.List.{List}
 use Prim.Native.Nat.{ℕ}
 use Rattle.terms.specs.declared.chip.MapChip.the-variants.{S2}
 use Rattle.terms.specs.Says.{Says}
-use Rattle.terms.proofs.Says.{Paper, says}
+use Rattle.terms.proofs.Says.{Paper}
 use Rattle.inputs.specs.Input.{fieldsRefusal}
+use Rattle.maps.specs.Told.{toldOf}
 use Rattle.maps.specs.Value.{valueById}
+use Rattle.maps.proofs.Told.{map-says}
 use Rattle.esp32s2.specs.declared.encryption.FlashEncryption.the-variants.{Value as Encryption, Refused as No-encryption}
 use Rattle.esp32s2.specs.declared.version.Version.the-variants.{Value as Version, Refused as No-version}
 use Rattle.esp32s2.specs.Encryption as encryption
@@ -26,12 +28,12 @@ encryption-paper =
 module _ (words : ℕ → ℕ) (dump map : List ℕ) where
   -- `rtc_calib_version`
   pub version-says : Says version.refusalOf version.valueOf 0
-      (calibVersionOf words dump map) (fieldsRefusal words S2 dump map) (versionOf dump map)
+      (calibVersionOf words dump map) (toldOf words S2 map (fieldsRefusal words S2 dump map)) (versionOf dump map)
   unfolding calibVersionOf
-  version-says = says version-paper _ _
+  version-says = map-says words map S2 version-paper _ _
 
   -- `flash_encryption`
   pub encryption-says : Says encryption.refusalOf encryption.valueOf false
-      (flashEncryptionOf words dump map) (fieldsRefusal words S2 dump map) (oddOnes (valueById S2 dump map 8))
+      (flashEncryptionOf words dump map) (toldOf words S2 map (fieldsRefusal words S2 dump map)) (oddOnes (valueById S2 dump map 8))
   unfolding flashEncryptionOf
-  encryption-says = says encryption-paper _ _
+  encryption-says = map-says words map S2 encryption-paper _ _

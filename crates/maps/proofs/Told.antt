@@ -1,7 +1,7 @@
 -- What a refusal on a map tells: the first bad record and its first nonzero byte, since the run stops there; any other number is plain.
 -- Assumes nothing.
 use mathlib.Core.Path.{_≡_, refl, sym, _∙_, ap, subst}
-use mathlib.Core.Bool.{true, false, cond, _&&_, true≢false}
+use mathlib.Core.Bool.{Bool, true, false, cond, _&&_, true≢false}
 use mathlib.Core.List.{List}
 use Prim.Native.Nat.{ℕ, _+_, _≤_, _<_}
 use native.Mathlib.Omega.{arith}
@@ -10,7 +10,7 @@ use borrow.Author.Tests.{eq-eqb, ne-eqb}
 use Rattle.terms.specs.declared.chip.MapChip.{MapChip}
 use Rattle.terms.specs.declared.refusal.Refusal.{Refusal}
 use Rattle.terms.specs.Exactly.{Exactly}
-use Rattle.terms.specs.Refusal.{firstOf, plain, told}
+use Rattle.terms.specs.Refusal.{refuse, firstOf, plain, told}
 use Rattle.terms.specs.Says.{Says}
 use Rattle.terms.specs.When.{fault, no-fault}
 use Rattle.terms.proofs.Exactly.{case, first-fault}
@@ -23,6 +23,11 @@ use Rattle.maps.specs.Told.{ofRecord, badRecord, toldFrom, toldOf, ToldW
 use Rattle.maps.specs.Told.{FirstByte, fifth, sixth, seventh, FirstBad, Tells, byte, a-record, no-record}
 use Rattle.maps.specs.When.{Zeros, MapRecordWhen, bad-id, bad-byte, bad-place, bad-count, good-record, MapWhen, bad-length, records}
 use Rattle.maps.proofs.Exactly.{record-exactly, map-exactly}
+
+-- a test for a number that is of no record gives none of a record
+pub refuse-plain : (t : Bool) (n : ℕ) → ofRecord n ≡ false → ofRecord (refuse t n 0) ≡ false
+refuse-plain true n e = e
+refuse-plain false n e = refl
 
 module _ (words : ℕ → ℕ) (map : List ℕ) where
   -- what a record gives is a number of a record
