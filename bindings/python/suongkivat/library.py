@@ -15,7 +15,7 @@ import subprocess
 from typing import Any, Iterator, NamedTuple
 
 from . import raw
-from .refusals import Refused
+from .refusals import refused
 
 VARIABLE = "SUONGKIVAT_LIBRARY"
 PACKAGE = pathlib.Path(__file__).resolve().parent
@@ -102,5 +102,5 @@ def ask(name: str, *arguments: Any) -> Any:
     """A call's answer; raises Refused where it is turned down."""
     answer = getattr(loaded().calls, name)(*arguments)
     if answer.refusal.number:
-        raise Refused(answer.refusal.number)
+        raise refused(answer.refusal, name in raw.MAPPED)
     return answer

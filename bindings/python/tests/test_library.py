@@ -7,6 +7,7 @@ import sys
 import tempfile
 import unittest
 
+from suongkivat import raw
 from suongkivat.library import loaded
 
 from .project import ROOT
@@ -79,7 +80,8 @@ class Library(unittest.TestCase):
         if not shutil.which("pkg-config"):
             self.skipTest("there is no pkg-config (Debian: pkg-config)")
         path = self.copied("in stalled/lib/libsuongkivat.so")
-        (self.room / "suongkivat.pc").write_text(f"libdir={path.parent}\nName: suongkivat\nDescription: here\nVersion: 1.0\n")
+        lines = f"libdir={path.parent}", "Name: suongkivat", "Description: here", f"Version: {raw.VERSION}", ""
+        (self.room / "suongkivat.pc").write_text("\n".join(lines))
         self.finds(path, PKG_CONFIG_PATH=str(self.room))
 
     def test_no_library_at_all(self):
