@@ -264,6 +264,7 @@ class MapRecords(unittest.TestCase):
             calls.skv_view(*dump, *dump, 0, 11).refusal,
             calls.skv_check_map(Chip.ESP32, MAP, 47).refusal,
             calls.skv_check_map(Chip.ESP32, MAP, 48).refusal,
+            *(calls.skv_check_map(Chip.ESP32, changed(MAP, wrong[:2]), 48).refusal for wrong in WRONG if wrong[2][1] is None),
             calls.skv_decode(*dump, b"", 0, 2, 0).refusal,
             calls.skv_next_sample(b"abc", 3).refusal,
         ):
