@@ -81,7 +81,7 @@ pub extern "C" fn skv_convert(cal: LineRecord, count: Count) -> SkvVoltage {
 pub extern "C" fn tested_convert(cal: LineRecord, count: Count) -> SkvVoltage {
     match rules::record(record(cal)).and_then(|()| rules::raw(count.0)) {
         Ok(()) => skv_convert(cal, count),
-        Err(number) => SkvVoltage { refusal: SkvRefusal { number, ..NONE }, voltage: Millivolt(0) },
+        Err(refusal) => SkvVoltage { refusal: SkvRefusal { number: refusal.number, ..NONE }, voltage: Millivolt(0) },
     }
 }
 
