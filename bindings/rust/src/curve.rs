@@ -4,8 +4,8 @@ use crate::{raw, Answer, Attenuation, Chip, Millivolt, Unit};
 /// Corrects a line answer by the curve of its chip, unit and attenuation. The minor block version is looked at for a C6 alone.
 ///
 /// # Errors
-/// [`Unit`](crate::Refusal::Unit), [`Curve`](crate::Refusal::Curve), so too for a number that names no chip,
-/// [`LineAnswer`](crate::Refusal::LineAnswer).
+/// [`Unit`](crate::Reason::Unit), [`Curve`](crate::Reason::Curve), so too for a number that names no chip,
+/// [`LineAnswer`](crate::Reason::LineAnswer).
 #[inline]
 pub fn correct(
     chip: Chip,

@@ -4,7 +4,7 @@ use crate::{raw, Answer};
 /// The bits `bit_start` to `bit_start + bit_count - 1` of a block.
 ///
 /// # Errors
-/// Of every reading: [`Dump`](crate::Refusal::Dump), [`Block`](crate::Refusal::Block), [`BitRange`](crate::Refusal::BitRange), in
+/// Of every reading: [`Dump`](crate::Reason::Dump), [`Block`](crate::Reason::Block), [`BitRange`](crate::Reason::BitRange), in
 /// this order.
 #[repr(C)]
 #[derive(Debug, Clone, Copy, PartialEq, Eq, Hash, Default)]

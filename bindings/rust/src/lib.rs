@@ -1,8 +1,8 @@
 //! Suongkivat from Rust: raw ADC counts of ESP32 boards and their kin into millivolts, by a library that is proved to give exactly the
 //! answers of its rules.
 //!
-//! - **Answers.** A call takes any input, and gives [`Answer`]: its value, or the [`Refusal`] that says why there is none. No call
-//!   panics, but for indexing a [`Table`] past its end.
+//! - **Answers.** A call takes any input, and gives [`Answer`]: its value, or the [`Refusal`] that says why there is none, and on a map
+//!   which of its records is bad. No call panics, but for indexing a [`Table`] past its end.
 //! - **Memory is lent.** A dump is a slice of words, a map or a log one of bytes; nothing is copied, kept or allocated. A refused call
 //!   leaves what it was lent as it was.
 //! - **Numbers that mean different things are different types**: [`Count`] and [`Millivolt`], [`Unit`] and [`Attenuation`], [`Chip`].
@@ -55,12 +55,12 @@ pub use line::LineRecord;
 pub use log::{next_sample, Log, Sample};
 pub use map::check_map;
 pub use quantity::{Attenuation, Chip, Count, Millivolt, Unit};
-pub use refusal::{Answer, Refusal};
+pub use refusal::{Answer, Reason, Refusal};
 pub use session::Session;
 pub use table::Table;
 
 /// The version of the header that this crate is written to. The first number changes where a caller has to be changed.
-pub const VERSION: &str = "1.0";
+pub const VERSION: &str = "2.0";
 
 /// Words of a dump: blocks 0 to 10, eight words each.
 pub const DUMP_WORDS: usize = 88;

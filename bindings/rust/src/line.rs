@@ -21,18 +21,18 @@ impl LineRecord {
     /// The record of a dump's unit at an attenuation, by an ESP32 map.
     ///
     /// # Errors
-    /// [`Dump`](crate::Refusal::Dump), [`Unit`](crate::Refusal::Unit), those of [`check_map`](crate::check_map),
-    /// [`Underflow`](crate::Refusal::Underflow).
+    /// [`Dump`](crate::Reason::Dump), [`Unit`](crate::Reason::Unit), those of [`check_map`](crate::check_map),
+    /// [`Underflow`](crate::Reason::Underflow).
     #[inline]
     pub fn decode(dump: &[u32], map: &[u8], unit: Unit, attenuation: Attenuation) -> Answer<Self> {
         let decoded = raw::decode(dump, map, unit.0, attenuation.0);
-        decoded.refusal.or(decoded.record)
+        decoded.refusal.or_of_map(decoded.record)
     }
 
     /// Whether it is inside its ranges, as a decoded one is.
     ///
     /// # Errors
-    /// [`LineRecord`](crate::Refusal::LineRecord).
+    /// [`LineRecord`](crate::Reason::LineRecord).
     #[inline]
     pub fn check(self) -> Answer<()> {
         raw::check_record(self).refusal.or(())
@@ -41,7 +41,7 @@ impl LineRecord {
     /// The millivolts of a count, at most 12,285.
     ///
     /// # Errors
-    /// [`LineRecord`](crate::Refusal::LineRecord), [`Raw`](crate::Refusal::Raw).
+    /// [`LineRecord`](crate::Reason::LineRecord), [`Raw`](crate::Reason::Raw).
     #[inline]
     pub fn convert(self, count: Count) -> Answer<Millivolt> {
         let answer = raw::convert(self, count);
@@ -51,7 +51,7 @@ impl LineRecord {
     /// Writes the millivolts of the counts from a first one on into the lent list, all of it.
     ///
     /// # Errors
-    /// [`LineRecord`](crate::Refusal::LineRecord), [`Stretch`](crate::Refusal::Stretch). The list is then as it was.
+    /// [`LineRecord`](crate::Reason::LineRecord), [`Stretch`](crate::Reason::Stretch). The list is then as it was.
     #[inline]
     pub fn fill(self, first_count: Count, millivolts: &mut [Millivolt]) -> Answer<()> {
         raw::fill(self, first_count, millivolts).refusal.or(())
@@ -60,7 +60,7 @@ impl LineRecord {
     /// The millivolts of all counts.
     ///
     /// # Errors
-    /// [`LineRecord`](crate::Refusal::LineRecord).
+    /// [`LineRecord`](crate::Reason::LineRecord).
     #[inline]
     pub fn table(self) -> Answer<Table> {
         Table::of(self)

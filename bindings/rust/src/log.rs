@@ -18,7 +18,7 @@ pub struct Sample {
 /// What a log begins with; none at its end.
 ///
 /// # Errors
-/// [`Log`](crate::Refusal::Log).
+/// [`Log`](crate::Reason::Log).
 #[inline]
 pub fn next_sample(log: &[u8]) -> Answer<Option<Sample>> {
     let next = raw::next_sample(log);

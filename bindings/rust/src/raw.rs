@@ -1,5 +1,5 @@
 //! The library as C has it: include/suongkivat.h in Rust, and each of its calls over slices. An answer here is the header's struct, a
-//! number and its values beside it; the rest of the crate makes an [`Answer`](crate::Answer) of it.
+//! refusal and the values beside it; the rest of the crate makes an [`Answer`](crate::Answer) of it.
 //!
 //! What is handed in has the header's layout under a name of its own: [`Count`](crate::Count), [`Millivolt`](crate::Millivolt),
 //! [`Field`](crate::Field), [`LineRecord`](crate::LineRecord) and [`Sample`](crate::Sample).
@@ -61,28 +61,28 @@ structs! {
     SkvField = 6 { block: u8 = 0, bit_start: u16 = 2, bit_count: u16 = 4 }
     SkvLineRecord = 16 { coeff_a: u32 = 0, coeff_b: u32 = 4, vref: u32 = 8, unit: u8 = 12, use_lut: u8 = 13 }
     SkvSample = 4 { raw: SkvCount = 0, board: u8 = 2, last: u8 = 3 }
-    /// A refusal's number; 0 is none.
-    SkvRefusal = 1 { number: u8 = 0 }
+    /// A refusal's number, 0 for none; a map's first bad record and the place of its stray byte where it tells them, else 0.
+    SkvRefusal = 3 { number: u8 = 0, record: u8 = 1, place: u8 = 2 }
     /// An answer without values.
-    SkvOutcome = 1 { refusal: SkvRefusal = 0 }
+    SkvOutcome = 3 { refusal: SkvRefusal = 0 }
     /// A voltage.
-    SkvVoltage = 4 { refusal: SkvRefusal = 0, voltage: SkvMillivolt = 2 }
+    SkvVoltage = 6 { refusal: SkvRefusal = 0, voltage: SkvMillivolt = 4 }
     /// A calibration code.
-    SkvCode = 4 { refusal: SkvRefusal = 0, code: u16 = 2 }
+    SkvCode = 6 { refusal: SkvRefusal = 0, code: u16 = 4 }
     /// A number with sign.
     SkvReading = 8 { refusal: SkvRefusal = 0, value: i32 = 4 }
     /// A field's value.
     SkvRead = 8 { refusal: SkvRefusal = 0, value: u32 = 4 }
     /// A part of a board's dump: its first word, and how many there are.
-    SkvView = 12 { refusal: SkvRefusal = 0, board: u8 = 1, first: u32 = 4, words: u32 = 8 }
+    SkvView = 12 { refusal: SkvRefusal = 0, board: u8 = 3, first: u32 = 4, words: u32 = 8 }
     /// A line record.
     SkvDecoded = 20 { refusal: SkvRefusal = 0, record: SkvLineRecord = 4 }
     /// A calibration's version.
-    SkvVersion = 2 { refusal: SkvRefusal = 0, version: u8 = 1 }
+    SkvVersion = 4 { refusal: SkvRefusal = 0, version: u8 = 3 }
     /// Whether flash encryption is on: 1 or 0.
-    SkvFlashEncryption = 2 { refusal: SkvRefusal = 0, on: u8 = 1 }
+    SkvFlashEncryption = 4 { refusal: SkvRefusal = 0, on: u8 = 3 }
     /// What a log begins with: a sample where whole is 1; its end where whole is 0 and nothing is refused.
-    SkvNext = 6 { refusal: SkvRefusal = 0, whole: u8 = 1, sample: SkvSample = 2 }
+    SkvNext = 8 { refusal: SkvRefusal = 0, whole: u8 = 3, sample: SkvSample = 4 }
 }
 
 // lent as a list of 16-bit numbers

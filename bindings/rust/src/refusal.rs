@@ -6,24 +6,34 @@ use crate::raw::SkvRefusal;
 /// What a call gives: its value, or why there is none.
 pub type Answer<T> = Result<T, Refusal>;
 
-macro_rules! refusals {
+/// Why a call was turned down, and which record of its map is to blame.
+#[derive(Debug, Clone, Copy, PartialEq, Eq, PartialOrd, Ord, Hash)]
+pub struct Refusal {
+    /// What is wrong.
+    pub reason: Reason,
+    /// The number of the map's first bad record, from 0: of a call that takes a map, at [`MapId`](Reason::MapId),
+    /// [`MapByte`](Reason::MapByte), [`Block`](Reason::Block), [`BitRange`](Reason::BitRange) and [`BitCount`](Reason::BitCount).
+    pub record: Option<u8>,
+    /// Where in that record the first byte stands that should be zero and isn't, 5, 6 or 7: at [`MapByte`](Reason::MapByte).
+    pub place: Option<u8>,
+}
+
+macro_rules! reasons {
     ($($number:literal $name:ident: $words:literal, $advice:literal;)*) => {
-        /// Why a call was turned down, by its number in the header and in docs/RULES.md.
+        /// What is wrong, by its number in the header and in docs/RULES.md.
         #[derive(Debug, Clone, Copy, PartialEq, Eq, PartialOrd, Ord, Hash)]
         #[non_exhaustive]
-        pub enum Refusal {
+        pub enum Reason {
             $(#[doc = concat!("Number ", $number, ": ", $words, ".")] $name,)*
             /// A number that this crate doesn't know: the library is newer than the crate. docs/RULES.md of that library has it.
             Unknown(u8),
         }
 
-        impl Refusal {
-            /// The refusals that the crate knows, in the order of their numbers.
+        impl Reason {
+            /// The reasons that the crate knows, in the order of their numbers.
             pub const ALL: &'static [Self] = &[$(Self::$name),*];
 
-            /// The refusal of a number that is one. Kept out of line, so that callers on the good way carry nothing of it.
-            #[cold]
-            #[inline(never)]
+            /// The reason of a number that is one.
             const fn numbered(number: u8) -> Self {
                 match number {
                     $($number => Self::$name,)*
@@ -58,10 +68,10 @@ macro_rules! refusals {
     };
 }
 
-refusals! {
+reasons! {
     1 Dump: "the dump hasn't 88 words", "dump the board again; a dump file has 352 bytes";
     2 Map: "the map's length isn't its chip's", "take the map of this chip, and see that it is whole";
-    3 MapRecord: "a map record's id or a zero byte is wrong", "mend that record: ids in order, each once; look for a shifted byte";
+    3 MapId: "a map record's id isn't that of its place", "mend that record: ids in order, each once; look for a shifted byte";
     4 Block: "block above 10", "mend the block";
     5 BitRange: "bit start above 255, or start + count above 256", "mend bit start or count: a field stays inside its block";
     6 BitCount: "a map record's bit count isn't its id's", "mend the count by the table of ids";
@@ -76,10 +86,12 @@ refusals! {
     14 Curve: "no curve for that chip and unit", "ask only for a chip and a unit that have a curve";
     15 Board: "board above 1, or a sample's last byte above 7", "distrust the log: a byte was lost or the layout is another";
     16 Log: "log ends inside a record", "the log was cut off; what came before it stands";
+    18 MapByte: "a byte among a map record's last three isn't zero",
+        "mend that byte: it is zero in every record; look for a shifted byte";
 }
 
-impl Refusal {
-    /// The refusal of a number; none for 0, which is no refusal.
+impl Reason {
+    /// The reason of a number; none for 0, which is no refusal.
     pub const fn from_number(number: u8) -> Option<Self> {
         if number == 0 {
             None
@@ -87,24 +99,92 @@ impl Refusal {
             Some(Self::numbered(number))
         }
     }
+
+    /// Whether a call that takes a map tells the bad record with it.
+    const fn is_of_a_record(self) -> bool {
+        matches!(self, Self::MapId | Self::MapByte | Self::Block | Self::BitRange | Self::BitCount)
+    }
+}
+
+impl fmt::Display for Reason {
+    fn fmt(&self, to: &mut fmt::Formatter) -> fmt::Result {
+        write!(to, "{} (refusal {})", self.words(), self.number())
+    }
+}
+
+impl Refusal {
+    /// Its reason's number.
+    pub const fn number(self) -> u8 {
+        self.reason.number()
+    }
+
+    /// What is wrong, in the words of the header.
+    pub const fn words(self) -> &'static str {
+        self.reason.words()
+    }
+
+    /// What to do about it, in the words of docs/RULES.md.
+    pub const fn advice(self) -> &'static str {
+        self.reason.advice()
+    }
+}
+
+/// A refusal that tells no record.
+impl From<Reason> for Refusal {
+    #[inline]
+    fn from(reason: Reason) -> Self {
+        Self { reason, record: None, place: None }
+    }
 }
 
 impl fmt::Display for Refusal {
     fn fmt(&self, to: &mut fmt::Formatter) -> fmt::Result {
-        write!(to, "{} (refusal {})", self.words(), self.number())
+        match (self.record, self.place) {
+            (Some(record), Some(place)) => write!(to, "map record {record}, byte {place}: ")?,
+            (Some(record), None) => write!(to, "map record {record}: ")?,
+            (None, _) => (),
+        }
+        self.reason.fmt(to)
     }
 }
 
 impl error::Error for Refusal {}
 
 impl SkvRefusal {
-    /// The value that stands beside this number, if the number is no refusal.
+    /// The value that stands beside it, if it is no refusal: of a call that takes no map.
     #[inline]
     pub(crate) fn or<T>(self, value: T) -> Answer<T> {
         if self.number == 0 {
             Ok(value)
         } else {
-            Err(Refusal::numbered(self.number))
+            Err(self.plain())
         }
+    }
+
+    /// The same of a call that takes a map, where some numbers tell its record.
+    #[inline]
+    pub(crate) fn or_of_map<T>(self, value: T) -> Answer<T> {
+        if self.number == 0 {
+            Ok(value)
+        } else {
+            Err(self.of_map())
+        }
+    }
+
+    /// A refusal that tells no record. Kept out of line, as is the one below, so that callers on the good way carry nothing of them.
+    #[cold]
+    #[inline(never)]
+    fn plain(self) -> Refusal {
+        Reason::numbered(self.number).into()
+    }
+
+    /// A refusal with the record and the place that it tells.
+    #[cold]
+    #[inline(never)]
+    fn of_map(self) -> Refusal {
+        let reason = Reason::numbered(self.number);
+        let record = reason.is_of_a_record().then_some(self.record);
+        let place = (reason == Reason::MapByte).then_some(self.place);
+        Refusal { reason, record, place }
     }
 }

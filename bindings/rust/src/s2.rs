@@ -4,11 +4,11 @@ use crate::{raw, Answer, Attenuation, Millivolt, Unit};
 /// The calibration's version.
 ///
 /// # Errors
-/// [`Dump`](crate::Refusal::Dump), those of [`check_map`](crate::check_map).
+/// [`Dump`](crate::Reason::Dump), those of [`check_map`](crate::check_map).
 #[inline]
 pub fn version(dump: &[u32], map: &[u8]) -> Answer<u8> {
     let answer = raw::s2_version(dump, map);
-    answer.refusal.or(answer.version)
+    answer.refusal.or_of_map(answer.version)
 }
 
 macro_rules! readings {
@@ -17,7 +17,7 @@ macro_rules! readings {
             #[doc = concat!("The reading of the ", $what, " by a version; 0 where that version hasn't one.")]
             ///
             /// # Errors
-            /// [`Dump`](crate::Refusal::Dump), [`Unit`](crate::Refusal::Unit).
+            /// [`Dump`](crate::Reason::Dump), [`Unit`](crate::Reason::Unit).
             #[inline]
             pub fn $reading(dump: &[u32], version: u8, unit: Unit, attenuation: Attenuation) -> Answer<i32> {
                 let answer = raw::$raw_reading(dump, version, unit.0, attenuation.0);
@@ -27,7 +27,7 @@ macro_rules! readings {
             #[doc = concat!("The reading of the ", $what, " with the eFuse skipped.")]
             ///
             /// # Errors
-            /// [`Unit`](crate::Refusal::Unit).
+            /// [`Unit`](crate::Reason::Unit).
             #[inline]
             pub fn $skipped(version: u8, unit: Unit, attenuation: Attenuation) -> Answer<i32> {
                 let answer = raw::$raw_skipped(version, unit.0, attenuation.0);
@@ -46,12 +46,12 @@ readings! {
 /// The initial code.
 ///
 /// # Errors
-/// [`Dump`](crate::Refusal::Dump), [`Unit`](crate::Refusal::Unit), those of [`check_map`](crate::check_map),
-/// [`NoCode`](crate::Refusal::NoCode).
+/// [`Dump`](crate::Reason::Dump), [`Unit`](crate::Reason::Unit), those of [`check_map`](crate::check_map),
+/// [`NoCode`](crate::Reason::NoCode).
 #[inline]
 pub fn init_code(dump: &[u32], map: &[u8], unit: Unit, attenuation: Attenuation) -> Answer<u16> {
     let answer = raw::s2_init_code(dump, map, unit.0, attenuation.0);
-    answer.refusal.or(answer.code)
+    answer.refusal.or_of_map(answer.code)
 }
 
 /// The code at the reference voltage, [`cal_mv`].
@@ -61,13 +61,13 @@ pub fn init_code(dump: &[u32], map: &[u8], unit: Unit, attenuation: Attenuation)
 #[inline]
 pub fn cal_code(dump: &[u32], map: &[u8], unit: Unit, attenuation: Attenuation) -> Answer<u16> {
     let answer = raw::s2_cal_code(dump, map, unit.0, attenuation.0);
-    answer.refusal.or(answer.code)
+    answer.refusal.or_of_map(answer.code)
 }
 
 /// The reference voltage of an attenuation.
 ///
 /// # Errors
-/// [`Unit`](crate::Refusal::Unit).
+/// [`Unit`](crate::Reason::Unit).
 #[inline]
 pub fn cal_mv(unit: Unit, attenuation: Attenuation) -> Answer<Millivolt> {
     let answer = raw::s2_cal_mv(unit.0, attenuation.0);
@@ -77,9 +77,9 @@ pub fn cal_mv(unit: Unit, attenuation: Attenuation) -> Answer<Millivolt> {
 /// Whether flash encryption is on.
 ///
 /// # Errors
-/// [`Dump`](crate::Refusal::Dump), those of [`check_map`](crate::check_map).
+/// [`Dump`](crate::Reason::Dump), those of [`check_map`](crate::check_map).
 #[inline]
 pub fn flash_encryption(dump: &[u32], map: &[u8]) -> Answer<bool> {
     let answer = raw::s2_flash_encryption(dump, map);
-    answer.refusal.or(answer.on != 0)
+    answer.refusal.or_of_map(answer.on != 0)
 }

@@ -14,7 +14,7 @@ impl<'a> Session<'a> {
     /// The eight words of a board's block, as a part of its dump. The chosen dump alone is checked.
     ///
     /// # Errors
-    /// [`Board`](crate::Refusal::Board), [`Dump`](crate::Refusal::Dump), [`Block`](crate::Refusal::Block).
+    /// [`Board`](crate::Reason::Board), [`Dump`](crate::Reason::Dump), [`Block`](crate::Reason::Block).
     #[inline]
     pub fn view(self, board: u8, block: u8) -> Answer<&'a [u32]> {
         let view = raw::view(self.field, self.reference, board, block);
@@ -26,10 +26,10 @@ impl<'a> Session<'a> {
     /// A sample's millivolts, by an ESP32 map and the dump of its board.
     ///
     /// # Errors
-    /// [`Board`](crate::Refusal::Board), those of [`LineRecord::decode`](crate::LineRecord::decode), [`Raw`](crate::Refusal::Raw).
+    /// [`Board`](crate::Reason::Board), those of [`LineRecord::decode`](crate::LineRecord::decode), [`Raw`](crate::Reason::Raw).
     #[inline]
     pub fn sample(self, map: &[u8], sample: Sample) -> Answer<Millivolt> {
         let answer = raw::sample(sample, self.field, self.reference, map);
-        answer.refusal.or(answer.voltage)
+        answer.refusal.or_of_map(answer.voltage)
     }
 }

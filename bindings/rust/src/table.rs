@@ -1,7 +1,7 @@
 //! A table of all counts, filled once and then only looked into.
 use std::ops::Index;
 
-use crate::{Answer, Count, LineRecord, Millivolt, Refusal, COUNTS};
+use crate::{Answer, Count, LineRecord, Millivolt, Reason, COUNTS};
 
 /// The millivolts of every count by one record: 8 KiB, in the place that holds it.
 #[derive(Debug, Clone, PartialEq, Eq)]
@@ -11,7 +11,7 @@ impl Table {
     /// The table of a record.
     ///
     /// # Errors
-    /// [`LineRecord`](Refusal::LineRecord).
+    /// [`LineRecord`](Reason::LineRecord).
     #[inline]
     pub fn of(record: LineRecord) -> Answer<Self> {
         let mut table = Self([Millivolt(0); COUNTS]);
@@ -22,7 +22,7 @@ impl Table {
     /// Makes it the table of another record.
     ///
     /// # Errors
-    /// [`LineRecord`](Refusal::LineRecord). It is then still the table that it was.
+    /// [`LineRecord`](Reason::LineRecord). It is then still the table that it was.
     #[inline]
     pub fn refill(&mut self, record: LineRecord) -> Answer<()> {
         record.fill(Count(0), &mut self.0)
@@ -31,10 +31,10 @@ impl Table {
     /// What [`LineRecord::convert`] answers for the table's record.
     ///
     /// # Errors
-    /// [`Raw`](Refusal::Raw). Indexing with such a count panics.
+    /// [`Raw`](Reason::Raw). Indexing with such a count panics.
     #[inline]
     pub fn get(&self, count: Count) -> Answer<Millivolt> {
-        self.0.get(usize::from(count.0)).copied().ok_or(Refusal::Raw)
+        self.0.get(usize::from(count.0)).copied().ok_or(Reason::Raw.into())
     }
 
     /// All of it, from count 0 on.

@@ -53,6 +53,25 @@ pub fn compensation(library: &Library, tally: &mut Tally, dump: &[u32], map: &[u
     tally.same("c6_get_chan_compens", input, ours, || told(answers::c6_chan_compens(dump, map, at.0, channel, at.1)))
 }
 
+/// Every call that a map's fields answer, by a minor version or of a channel.
+pub fn calls(
+    library: &Library,
+    tally: &mut Tally,
+    dump: &[u32],
+    map: &[u8],
+    (minor, channel): (u8, u8),
+    at: (u8, u8),
+) -> Compared {
+    init_code(library, tally, dump, map, (minor, at))?;
+    cal_code(library, tally, dump, map, (minor, at))?;
+    compensation(library, tally, dump, map, (channel, at))
+}
+
+/// A minor version, and a channel.
+pub fn any_minor_and_channel(noise: &mut Noise) -> (u8, u8) {
+    (noise.pick(&MINORS), noise.byte())
+}
+
 /// Minor versions with good units and attenuations.
 fn minors() -> impl Iterator<Item = At> {
     MINORS.into_iter().flat_map(|minor| good_units_and_attens().map(move |at| (minor, at)))
@@ -117,10 +136,7 @@ pub fn refused(library: &Library, tally: &mut Tally, noise: &mut Noise) -> Compa
     for _ in 0..400_000 {
         let dump = noise.dump();
         let Strewn { dump, map, unit, atten } = strewn(noise, MapChip::C6, &dump);
-        let (minor, channel) = (noise.pick(&MINORS), noise.byte());
-        init_code(library, tally, &dump, &map, (minor, (unit, atten)))?;
-        cal_code(library, tally, &dump, &map, (minor, (unit, atten)))?;
-        compensation(library, tally, &dump, &map, (channel, (unit, atten)))?;
+        calls(library, tally, &dump, &map, any_minor_and_channel(noise), (unit, atten))?;
     }
     Ok(())
 }

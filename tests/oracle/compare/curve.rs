@@ -2,7 +2,7 @@
 use oracle::answers;
 use oracle::curve::Chip;
 use oracle::noise::Noise;
-use oracle::rules::{self, Answer};
+use oracle::rules::{self, Answer, Refusal};
 
 use crate::input::Input;
 use crate::library::Library;
@@ -14,7 +14,7 @@ const C6: u8 = 4;
 
 /// A number that names no chip has no curve.
 fn wanted(chip: u8, minor: u8, unit: u8, atten: u8, line: u16) -> Answer<u16> {
-    let Some(chip) = Chip::numbered(chip, minor) else { return rules::unit(unit, atten).and(Err(14)) };
+    let Some(chip) = Chip::numbered(chip, minor) else { return rules::unit(unit, atten).and(Err(Refusal::numbered(14))) };
     answers::correct(chip, unit, atten, line)
 }
 

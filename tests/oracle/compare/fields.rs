@@ -1,13 +1,13 @@
 //! Fields at 8, 16 and 32 bits and into bytes; the view of a block.
 use oracle::fields::{Field, MOST_BYTES};
 use oracle::noise::Noise;
-use oracle::rules::{Answer, number};
+use oracle::rules::Answer;
 use oracle::{Dump, answers, dumps};
 
 use crate::input::Input;
 use crate::library::Library;
 use crate::tally::{Compared, Lent, Tally, outcome, told};
-use crate::told::{Told, View};
+use crate::told::{Refused, Told, View};
 
 /// Every start and count up to the first past a block's end, and some far ones.
 fn starts_and_counts() -> impl Iterator<Item = (u16, u16)> {
@@ -104,9 +104,9 @@ pub fn view(library: &Library, tally: &mut Tally, [field, reference]: [&[u32]; 2
     let input = || Input::default().number("board", board).number("block", block).dump(field).dump(reference);
     let wanted = || {
         let answer = answers::view(field, reference, board, block);
-        let number = number(&answer);
+        let refused = Refused::of(&answer);
         let answers::View { board, first, words } = answer.unwrap_or_default();
-        View { number, board, first: first as u32, words: words as u32 }
+        View { refused, board, first: first as u32, words: words as u32 }
     };
     tally.same("view", input, (library.view)(field, reference, board, block), wanted)
 }

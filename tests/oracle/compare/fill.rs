@@ -7,7 +7,7 @@ use crate::input::Input;
 use crate::library::Library;
 use crate::records;
 use crate::tally::{Compared, Difference, Lent, Tally, outcome};
-use crate::told::Outcome;
+use crate::told::{Outcome, Refused};
 
 /// Numbers of a table.
 const TABLE: usize = 4096;
@@ -44,7 +44,7 @@ fn fill_in(library: &Library, tally: &mut Tally, record: LineRecord, crates: &[M
     let (mut table, mut wanted) = (vec![BEFORE; TABLE], vec![BEFORE; TABLE]);
     for (first, end) in stretches.iter().copied() {
         let ours = (library.fill)(record, first as u16, &mut table[first..end]);
-        tally.same("fill", || input(record, first, end - first), ours, || Outcome { number: 0 })?;
+        tally.same("fill", || input(record, first, end - first), ours, || Outcome { refused: Refused::NOT })?;
         wanted[first..end].copy_from_slice(&crates[first..end]);
         tally.same_table("fill", || input(record, first, end - first), [&table, &wanted], first..end)?;
     }

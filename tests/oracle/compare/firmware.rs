@@ -12,6 +12,7 @@ use crate::library::Library;
 use crate::records::crates;
 use crate::strewn::good_units_and_attens;
 use crate::tally::{Compared, Tally};
+use crate::told::Refused;
 
 /// Every such pair of codes, unit and attenuation; of each that we answer the whole table too.
 pub fn firmware(library: &Library, tally: &mut Tally, noise: &mut Noise) -> Compared {
@@ -24,7 +25,7 @@ pub fn firmware(library: &Library, tally: &mut Tally, noise: &mut Noise) -> Comp
             let (dump, map) = dump_and_map(MapChip::Esp32, &codes.bits());
             decode(library, tally, &dump, &map, (unit, atten))?;
             let decoded = (library.decode)(&dump, &map, unit, atten);
-            if decoded.number == 0 {
+            if decoded.refused == Refused::NOT {
                 let table = line::table_plain(crates(decoded.value)).expect("a plain build doesn't panic");
                 let table: Vec<Millivolt> = table.into_iter().map(Millivolt).collect();
                 at_once(library, tally, decoded.value, &table)?;

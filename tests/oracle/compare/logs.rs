@@ -1,7 +1,7 @@
 //! Sample logs: the next sample, and a sample's answer.
 use oracle::codes::Codes;
 use oracle::noise::Noise;
-use oracle::rules::{MapChip, number};
+use oracle::rules::MapChip;
 use oracle::{Dump, answers};
 use suongkivat::{Count, Sample};
 
@@ -9,14 +9,14 @@ use crate::input::Input;
 use crate::library::Library;
 use crate::strewn::{Strewn, plain_map, strewn};
 use crate::tally::{Compared, Tally, told};
-use crate::told::Next;
+use crate::told::{Next, Refused};
 
 fn wanted_next(log: &[u8]) -> Next {
     let answer = answers::next_sample(log);
-    let number = number(&answer);
+    let refused = Refused::of(&answer);
     let sample = answer.ok().flatten();
     let (raw, board, last) = sample.unwrap_or_default();
-    Next { number, whole: sample.is_some().into(), sample: Sample { raw: Count(raw), board, last } }
+    Next { refused, whole: sample.is_some().into(), sample: Sample { raw: Count(raw), board, last } }
 }
 
 pub fn next(library: &Library, tally: &mut Tally, log: &[u8]) -> Compared {

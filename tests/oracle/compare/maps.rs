@@ -1,11 +1,16 @@
-//! Field maps: every refusal of a map. The crate has no maps: document 01's rules answer.
+//! Field maps: every refusal of a map, from the call that checks it and from every other that takes one. The crate has no maps:
+//! document 01's rules answer.
+use oracle::Dump;
 use oracle::maps::{good_of, of_length, spoil};
 use oracle::noise::Noise;
-use oracle::rules::{self, Answer, MapChip, RECORD};
+use oracle::rules::{self, Answer, MapChip, RECORD, Refusal};
+use suongkivat::{Count, Sample};
 
 use crate::input::Input;
 use crate::library::Library;
+use crate::strewn::good_units_and_attens;
 use crate::tally::{Compared, Tally, outcome};
+use crate::{c6, decode, logs, s2};
 
 /// The chips that have maps, with their numbers.
 const CHIPS: [(u8, MapChip); 3] = [(0, MapChip::Esp32), (1, MapChip::S2), (4, MapChip::C6)];
@@ -16,7 +21,7 @@ pub fn chip_of(number: u8) -> Option<MapChip> {
 
 /// A number without a map has none of any length.
 fn wanted(chip: u8, map: &[u8]) -> Answer<()> {
-    chip_of(chip).map_or(Err(2), |chip| rules::map(chip, map))
+    chip_of(chip).map_or(Err(Refusal::numbered(2)), |chip| rules::map(chip, map))
 }
 
 pub fn check(library: &Library, tally: &mut Tally, chip: u8, map: &[u8]) -> Compared {
@@ -24,17 +29,23 @@ pub fn check(library: &Library, tally: &mut Tally, chip: u8, map: &[u8]) -> Comp
     tally.same("check_map", input, (library.check_map)(chip, map), || outcome(&wanted(chip, map)))
 }
 
-/// A good map for each chip number, at every length, with every byte set to everything, and with two faults.
-fn around(library: &Library, tally: &mut Tally, noise: &mut Noise, chip: u8, good: &[u8]) -> Compared {
-    (0..=255).try_for_each(|chip| check(library, tally, chip, good))?;
-    (0..good.len() + 2 * RECORD + 1).try_for_each(|length| check(library, tally, chip, &of_length(good.to_vec(), length)))?;
+/// A good map with every byte set to everything.
+fn every_byte(good: &[u8], mut ask: impl FnMut(&[u8]) -> Compared) -> Compared {
     for place in 0..good.len() {
         let mut map = good.to_vec();
         for byte in 0..=255 {
             map[place] = byte;
-            check(library, tally, chip, &map)?;
+            ask(&map)?;
         }
     }
+    Ok(())
+}
+
+/// A good map for each chip number, at every length, with every byte set to everything, and with two faults.
+fn around(library: &Library, tally: &mut Tally, noise: &mut Noise, chip: u8, good: &[u8]) -> Compared {
+    (0..=255).try_for_each(|chip| check(library, tally, chip, good))?;
+    (0..good.len() + 2 * RECORD + 1).try_for_each(|length| check(library, tally, chip, &of_length(good.to_vec(), length)))?;
+    every_byte(good, |map| check(library, tally, chip, map))?;
     for _ in 0..100_000 {
         let mut map = good.to_vec();
         for _ in 0..2 {
@@ -50,6 +61,32 @@ pub fn maps(library: &Library, tally: &mut Tally, noise: &mut Noise) -> Compared
     for (number, chip) in CHIPS {
         for good in good_of(noise, chip) {
             around(library, tally, noise, number, &good)?;
+        }
+    }
+    Ok(())
+}
+
+/// Every call that takes a chip's map, at every unit and attenuation.
+fn decodings(library: &Library, tally: &mut Tally, noise: &mut Noise, chip: MapChip, dump: &Dump, map: &[u8]) -> Compared {
+    good_units_and_attens().try_for_each(|at| match chip {
+        MapChip::Esp32 => {
+            decode::decode(library, tally, dump, map, at)?;
+            [0, 1].into_iter().try_for_each(|board| {
+                let sample = Sample { raw: Count(noise.below(4096) as u16), board, last: 4 * at.0 + at.1 };
+                logs::sample(library, tally, (dump, dump, map), sample)
+            })
+        }
+        MapChip::S2 => s2::calls(library, tally, dump, map, at),
+        MapChip::C6 => c6::calls(library, tally, dump, map, c6::any_minor_and_channel(noise), at),
+    })
+}
+
+/// Good maps with every byte set to everything, in every call that takes one: none may lose the record on its way.
+pub fn in_decoding(library: &Library, tally: &mut Tally, noise: &mut Noise) -> Compared {
+    for (_, chip) in CHIPS {
+        for good in good_of(noise, chip) {
+            let dump = noise.dump();
+            every_byte(&good, |map| decodings(library, tally, noise, chip, &dump, map))?;
         }
     }
     Ok(())

@@ -19,11 +19,12 @@ impl Part {
     }
 }
 
-pub const PARTS: [Part; 22] = [
+pub const PARTS: [Part; 23] = [
     Part { name: "fields", run: fields::fields },
     Part { name: "fields into bytes", run: fields::bytes },
     Part { name: "views", run: fields::views },
     Part { name: "maps", run: maps::maps },
+    Part { name: "maps in decoding", run: maps::in_decoding },
     Part { name: "decoding by Vref", run: decode::vref },
     Part { name: "decoding by two points", run: decode::two_point },
     Part { name: "decoding with faults", run: decode::refused },

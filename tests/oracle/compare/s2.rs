@@ -128,7 +128,7 @@ pub fn cal_mv(library: &Library, tally: &mut Tally, (unit, atten): (u8, u8)) -> 
 }
 
 /// Every call that a map's fields answer.
-fn calls(library: &Library, tally: &mut Tally, dump: &[u32], map: &[u8], at: (u8, u8)) -> Compared {
+pub fn calls(library: &Library, tally: &mut Tally, dump: &[u32], map: &[u8], at: (u8, u8)) -> Compared {
     version(library, tally, dump, map)?;
     flash_encryption(library, tally, dump, map)?;
     init_code(library, tally, dump, map, at)?;

@@ -3,12 +3,12 @@ use std::collections::BTreeSet;
 use std::fmt::{self, Debug, Display, Formatter};
 use std::ops::Range;
 
-use oracle::rules::{Answer, number};
+use oracle::rules::Answer;
 use oracle::{Panic, quietly};
 use suongkivat::Millivolt;
 
 use crate::input::{Input, runs};
-use crate::told::{Next, Outcome, Told, View};
+use crate::told::{Next, Outcome, Refused, Told, View};
 
 /// Where two answers differ.
 pub struct Difference {
@@ -30,33 +30,32 @@ pub type Compared = Result<(), Box<Difference>>;
 
 /// An answer as it is compared.
 pub trait Seen: PartialEq + Debug {
-    /// The number of its refusal, 0 for none.
-    fn number(&self) -> u8;
+    fn refused(&self) -> Refused;
 }
 
 impl<T: PartialEq + Debug> Seen for Told<T> {
-    fn number(&self) -> u8 {
-        self.number
+    fn refused(&self) -> Refused {
+        self.refused
     }
 }
 
 macro_rules! seen {
-    ($($answer:ty: $number:expr,)*) => {
+    ($($answer:ty: $refused:expr,)*) => {
         $(impl Seen for $answer {
-            fn number(&self) -> u8 {
-                let number: fn(&$answer) -> u8 = $number;
-                number(self)
+            fn refused(&self) -> Refused {
+                let refused: fn(&$answer) -> Refused = $refused;
+                refused(self)
             }
         })*
     };
 }
 
 seen! {
-    Outcome: |answer| answer.number,
-    View: |answer| answer.number,
-    Next: |answer| answer.number,
+    Outcome: |answer| answer.refused,
+    View: |answer| answer.refused,
+    Next: |answer| answer.refused,
     // A call that refuses nothing: the C6's version.
-    u8: |_| 0,
+    u8: |_| Refused::NOT,
 }
 
 /// An answer with all of the lent memory after the call.
@@ -70,18 +69,18 @@ impl<T: PartialEq + fmt::LowerHex> Debug for Lent<T> {
 }
 
 impl<T: PartialEq + fmt::LowerHex> Seen for Lent<T> {
-    fn number(&self) -> u8 {
-        self.0.number
+    fn refused(&self) -> Refused {
+        self.0.refused
     }
 }
 
 /// What the library has to tell of an answer: a refusal carries zeros.
 pub fn told<T: Default>(answer: Answer<T>) -> Told<T> {
-    Told { number: number(&answer), value: answer.unwrap_or_default() }
+    Told { refused: Refused::of(&answer), value: answer.unwrap_or_default() }
 }
 
 pub fn outcome<T>(answer: &Answer<T>) -> Outcome {
-    Outcome { number: number(answer) }
+    Outcome { refused: Refused::of(answer) }
 }
 
 /// How many answers were compared, how many of them are refusals, and with which numbers.
@@ -104,9 +103,10 @@ impl Tally {
         let wanted = match quietly(wanted) {
             Ok(wanted) if wanted == ours => {
                 self.compared += 1;
-                if wanted.number() != 0 {
+                let number = wanted.refused().number();
+                if number != 0 {
                     self.refused += 1;
-                    self.numbers.insert(wanted.number());
+                    self.numbers.insert(number);
                 }
                 return Ok(());
             }

@@ -1,10 +1,10 @@
 //! The C6: every 10-bit calibration code, init codes of every width, channel codes, every channel and every minor version.
 use oracle::answers;
 use oracle::dumps::{Builder, any_words, lent};
-use oracle::maps::{any_map, of_length, spoil};
+use oracle::maps::{any_map, changed, of_length, record_faults, spoil};
 use oracle::noise::Noise;
 use oracle::plain::record;
-use oracle::rules::{Answer, MapChip, RECORD, number};
+use oracle::rules::{Answer, MapChip, RECORD, refusal_bytes};
 
 use crate::list::List;
 
@@ -143,8 +143,23 @@ impl Asked {
         let answer = self.case.answer(&lent(&dump.dump, self.words), &map);
         let Case { call, minor, unit, atten, channel, .. } = self.case;
         list.put(&self.record).u8(self.place).u8(self.length).u8(self.words).u8(call);
-        list.u8(minor).u8(unit).u8(atten).u8(channel).u8(number(&answer)).zeros(3).i32(answer.unwrap_or(0));
+        list.u8(minor).u8(unit).u8(atten).u8(channel).put(&refusal_bytes(&answer)).u8(0).i32(answer.unwrap_or(0));
     }
+}
+
+/// Every call that takes a map, with each fault of each of its records, whichever of them is read.
+fn bad_records(map: &[u8]) -> Vec<Asked> {
+    let mut all = Vec::new();
+    for (good, place) in map.chunks(RECORD).zip(0..) {
+        for fault in record_faults(good) {
+            for call in [INIT_CODE, CAL_CODE, CHAN_COMPENS] {
+                let case = Case { call, minor: 1, unit: place % 2, atten: place % 4, channel: place, code: 0, count: 1 };
+                let record = changed(good, &fault).try_into().expect("a record");
+                all.push(Asked { case, place, record, length: 120, words: 88 });
+            }
+        }
+    }
+    all
 }
 
 /// The map that every case starts from: a good one.
@@ -158,7 +173,8 @@ pub fn map_list() -> List {
     list
 }
 
-/// A dump and 128 cases, each with a record of the map replaced.
+/// A dump and 128 cases, each with a record of the map replaced; last those of bad records, begun again until no case of a dump is left
+/// over.
 pub fn calls() -> List {
     const CASES: usize = 128;
     let mut list = List::new("esp32c6_cases", "calls", 352 + 24 * CASES);
@@ -188,6 +204,13 @@ pub fn calls() -> List {
             }
             asked.put(&mut list, &dump, &map);
         }
+    }
+    let bad = bad_records(&map);
+    let cases: Vec<&Asked> = bad.iter().cycle().take(bad.len().next_multiple_of(CASES)).collect();
+    for group in cases.chunks(CASES) {
+        let dump = Builder::new(noise.dump());
+        list.words(&dump.dump);
+        group.iter().for_each(|asked| asked.put(&mut list, &dump, &map));
     }
     list
 }

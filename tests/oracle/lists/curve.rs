@@ -15,7 +15,7 @@ pub fn tables() -> List {
     for index in 0..9 {
         for minor in if index == 4 { vec![1, 2] } else { vec![0] } {
             for (unit, atten) in [0, 1].into_iter().flat_map(|unit| [0, 1, 2, 3].map(|atten| (unit, atten))) {
-                if answers::correct(chip(index, minor), unit, atten, 0) == Err(14) {
+                if number(&answers::correct(chip(index, minor), unit, atten, 0)) == 14 {
                     continue;
                 }
                 list.u8(index).u8(minor).u8(unit).u8(atten);

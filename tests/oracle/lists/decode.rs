@@ -4,9 +4,10 @@ use std::collections::BTreeSet;
 use oracle::codes::{ATTENS, Codes, UNITS};
 use oracle::dumps::{Builder, any_words, lent};
 use oracle::line::Record;
-use oracle::maps::{of_length, spoil};
+use oracle::maps::{changed, map_faults, of_length, spoil};
 use oracle::noise::Noise;
-use oracle::rules::{RECORD, number};
+use oracle::plain::dump_and_map;
+use oracle::rules::{MapChip, RECORD, refusal_bytes};
 use oracle::{answers, document};
 
 use crate::list::List;
@@ -87,10 +88,28 @@ fn any_case(noise: &mut Noise) -> Case {
     (Codes::any(noise, reserve), noise.pick(&UNITS), noise.pick(&ATTENS))
 }
 
-/// A dump and 32 cases: what is decoded, with refusals strewn in by `strew`.
+/// Cases that share a dump.
+const CASES: usize = 32;
+
+/// Maps with each fault of their records, at each unit and attenuation in turn; begun again until no case of a dump is left over.
+fn put_bad_maps(list: &mut List, noise: &mut Noise) {
+    let faults = map_faults(&dump_and_map(MapChip::Esp32, &[]).1);
+    let keys = UNITS.into_iter().flat_map(|unit| ATTENS.map(|atten| (unit, atten))).cycle();
+    let cases: Vec<_> = faults.iter().cycle().zip(keys).take(faults.len().next_multiple_of(CASES)).collect();
+    for group in cases.chunks(CASES) {
+        let mut dump = Builder::new(noise.dump());
+        let good: Vec<Vec<u8>> = group.iter().map(|_| Codes::any(noise, 1).place(noise, &mut dump)).collect();
+        list.words(&dump.dump);
+        for (good, (fault, (unit, atten))) in good.iter().zip(group) {
+            let asked = Asked { map: changed(good, fault), length: 48, words: 88, unit: *unit, atten: *atten };
+            asked.put(list, &dump);
+        }
+    }
+}
+
+/// A dump and 32 cases: what is decoded, with refusals strewn in by `strew`, and last those of bad maps.
 pub fn decode() -> List {
-    const CASES: usize = 32;
-    let mut list = List::new("line_cases", "decode", 352 + 64 * CASES);
+    let mut list = List::new("line_cases", "decode", 352 + 68 * CASES);
     let noise = &mut Noise::new(4);
     let mut cases = vref_cases(noise);
     cases.extend(one_zero_cases(noise));
@@ -111,6 +130,7 @@ pub fn decode() -> List {
             asked.put(&mut list, &dump);
         }
     }
+    put_bad_maps(&mut list, noise);
     list
 }
 
@@ -144,9 +164,10 @@ impl Asked {
         let Self { map, length, words, unit, atten } = self;
         list.put(&map).u8(length as u8).u8(words).u8(unit).u8(atten);
         let answer = answers::decode(&lent(&dump.dump, words), &of_length(map, length), unit, atten);
-        list.u8(number(&answer));
+        let [number, record, place] = refusal_bytes(&answer);
         let none = Record { coeff_a: 0, coeff_b: 0, vref: 0, unit: 0, use_lut: false };
         let got = answer.unwrap_or(none);
-        list.u8(got.use_lut.into()).u16(got.vref as u16).u32(got.coeff_a).u32(got.coeff_b);
+        list.u8(number).u8(got.use_lut.into()).u16(got.vref as u16).u32(got.coeff_a).u32(got.coeff_b);
+        list.u8(record).u8(place).zeros(2);
     }
 }

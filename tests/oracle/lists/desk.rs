@@ -213,7 +213,7 @@ fn map_cases(noise: &mut Noise, good: &Case) -> Vec<Case> {
             maps.push(Some(changed(&[(k, at, byte)])));
         }
     }
-    // Within a record 3, 4, 5, 6; a record's fault before the next record's; the length before all.
+    // Within a record 18, 4, 5, 6; a record's fault before the next record's; the length before all.
     maps.push(Some(changed(&[(1, 7, 9), (1, 1, 255), (1, 3, 2), (1, 4, 0)])));
     maps.push(Some(changed(&[(1, 1, 255), (1, 3, 2), (1, 4, 0)])));
     maps.push(Some(changed(&[(1, 3, 2), (1, 4, 0)])));
@@ -225,6 +225,19 @@ fn map_cases(noise: &mut Noise, good: &Case) -> Vec<Case> {
     let field = Some(board(noise, &plain_map(), underflow));
     cases.push(Case { field, ..good.mapped(changed(&[(5, 4, 8)])) });
     cases
+}
+
+/// Maps with each byte that should be zero and isn't, in the first record, a middle one and the last; with a wrong id beside one, which
+/// comes before it; and in two records, of which the first is told.
+fn stray_byte_cases(good: &Case) -> Vec<Case> {
+    let mut maps = Vec::new();
+    for k in [0, 3, 5] {
+        maps.extend([5, 6, 7].map(|at| changed(&[(k, at, 128)])));
+        maps.push(changed(&[(k, 0, 0), (k, 6, 1)]));
+    }
+    maps.push(changed(&[(2, 7, 1), (3, 0, 0)]));
+    maps.push(changed(&[(2, 4, 0), (3, 5, 1)]));
+    maps.into_iter().map(|map| good.mapped(map)).collect()
 }
 
 /// Logs that are missing or empty, with torn ends alone, after samples, after a refused one, and around the samples that are read
@@ -268,6 +281,7 @@ fn cases() -> Vec<Case> {
     cases.extend(log_cases(noise, &plain));
     cases.extend((0..8).map(|_| any_case(noise)));
     cases.extend(attenuation_cases(noise, &plain, &plain_map()));
+    cases.extend(stray_byte_cases(&plain));
     cases
 }
 
@@ -322,7 +336,7 @@ pub fn save(root: &str) -> usize {
         stdout += &format!("case {number}\n{}", case.output());
     }
     // 7 needs a last byte above 7, which is 15; 10 to 14 belong to other calls.
-    assert_eq!(refusals(&stdout), BTreeSet::from([1, 2, 3, 4, 5, 6, 8, 9, 15, 16]));
+    assert_eq!(refusals(&stdout), BTreeSet::from([1, 2, 3, 4, 5, 6, 8, 9, 15, 16, 18]));
     let program = Path::new(root).join("crates").join("desk_cases");
     let data = program.join("data");
     let _ = fs::remove_dir_all(&data);

@@ -1,7 +1,7 @@
 //! The list of field maps, good ones and ones with a fault, which document 01's rules alone answer.
-use oracle::maps::{good_of, of_length, spoil};
+use oracle::maps::{Change, changed, good_of, map_faults, of_length, spoil};
 use oracle::noise::Noise;
-use oracle::rules::{self, MapChip, RECORD, number};
+use oracle::rules::{self, MapChip, RECORD, refusal_bytes};
 
 use crate::list::List;
 
@@ -23,18 +23,20 @@ pub fn good_maps() -> List {
     list
 }
 
-/// A byte of a map and its new value.
-type Change = (usize, u8);
-
-/// The bytes in which a map differs from the good one: two at most, else none are given. A byte that stays makes up the number.
-fn changes(good: &[u8], map: &[u8]) -> Option<[Change; 2]> {
-    let changed: Vec<Change> = map.iter().copied().enumerate().filter(|(at, byte)| good[*at] != *byte).collect();
-    match changed[..] {
+/// The two changes of a case, of two at most; else none are given. A byte that stays, or the one change again, makes up the number.
+fn two_of(good: &[u8], changes: &[Change]) -> Option<[Change; 2]> {
+    match *changes {
         [] => Some([(0, good[0]); 2]),
         [one] => Some([one; 2]),
         [one, other] => Some([one, other]),
         _ => None,
     }
+}
+
+/// The bytes in which a map differs from the good one.
+fn changes(good: &[u8], map: &[u8]) -> Option<[Change; 2]> {
+    let changed: Vec<Change> = map.iter().copied().enumerate().filter(|(at, byte)| good[*at] != *byte).collect();
+    two_of(good, &changed)
 }
 
 /// Two spoiled records, or one that is spoiled twice.
@@ -53,18 +55,16 @@ fn two_faults(noise: &mut Noise, good: &[u8]) -> [Change; 2] {
     }
 }
 
-/// Each good map as it is, at every length, with every byte changed, and with two faults at a time.
+/// Each good map as it is, at every length, with every byte changed, with two faults at a time, and with each fault of its records.
 pub fn maps() -> List {
-    let mut list = List::new("efuse_cases", "maps", 8);
+    let mut list = List::new("efuse_cases", "maps", 9);
     let noise = &mut Noise::new(3);
     for (which, (chip, good)) in good().into_iter().enumerate() {
         let mut one = |length: usize, changes: [Change; 2]| {
-            let mut map = good.clone();
-            changes.into_iter().for_each(|(at, byte)| map[at] = byte);
-            let answer = rules::map(chip, &of_length(map, length));
+            let answer = rules::map(chip, &of_length(changed(&good, &changes), length));
             list.u8(which as u8).u8(length as u8);
             changes.into_iter().for_each(|(at, byte)| _ = list.u8(at as u8).u8(byte));
-            list.u8(number(&answer)).u8(0);
+            list.put(&refusal_bytes(&answer));
         };
         let same = [(0, good[0]); 2];
         (0..good.len() + 9).for_each(|length| one(length, same));
@@ -74,6 +74,9 @@ pub fn maps() -> List {
         }
         for _ in 0..75 {
             one(good.len(), two_faults(noise, &good));
+        }
+        for fault in map_faults(&good) {
+            one(good.len(), two_of(&good, &fault).expect("two bytes at most"));
         }
     }
     list

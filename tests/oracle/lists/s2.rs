@@ -1,10 +1,10 @@
 //! The S2: every tag on zeros, ones and noise; every version, unit, attenuation and parameter; the codes; the crypt count.
-use oracle::answers;
 use oracle::dumps::{Builder, ONES, ZEROS, any_words, lent};
-use oracle::maps::{any_map, of_length, spoil};
+use oracle::maps::{Change, any_map, changed, map_faults, of_length, spoil};
 use oracle::noise::Noise;
-use oracle::plain::record;
-use oracle::rules::{Answer, MapChip, RECORD, number};
+use oracle::plain::{dump_and_map, record};
+use oracle::rules::{Answer, MapChip, RECORD, refusal_bytes};
+use oracle::{Dump, answers};
 
 use crate::list::List;
 
@@ -48,7 +48,9 @@ impl Asked {
         let map = of_length(self.map.clone(), self.length.into());
         let answer = self.answer(&lent(&dump.dump, self.words), &map);
         list.put(&self.map).u8(self.length).u8(self.words).u8(self.call);
-        list.u8(self.version).u8(self.unit).u8(self.atten).u8(self.param).u8(number(&answer)).i32(answer.unwrap_or(0));
+        let [number, record, place] = refusal_bytes(&answer);
+        list.u8(self.version).u8(self.unit).u8(self.atten).u8(self.param).u8(number).i32(answer.unwrap_or(0));
+        list.u8(record).u8(place).zeros(2);
     }
 }
 
@@ -83,12 +85,24 @@ fn version_map(noise: &mut Noise, dump: &mut Builder) -> Vec<u8> {
     [version, record(8, dump.holding(noise, bits, count))].concat()
 }
 
+/// A call on a map, of any unit and attenuation.
+fn on_map(noise: &mut Noise, map: Vec<u8>, call: u8) -> Asked {
+    let (unit, atten) = (noise.below(2) as u8, noise.below(4) as u8);
+    Asked { map, length: 16, words: 88, call, version: 0, unit, atten, param: 0 }
+}
+
+/// Every call that takes a map, with each fault of its records.
+fn bad_maps() -> Vec<(u8, Vec<Change>)> {
+    let faults = map_faults(&dump_and_map(MapChip::S2, &[]).1);
+    let calls = [VERSION, FLASH_ENCRYPTION, INIT_CODE, CAL_CODE];
+    faults.iter().flat_map(|fault| calls.map(|call| (call, fault.clone()))).collect()
+}
+
 /// A call on codes and fields, sometimes with a fault.
 fn any_call(noise: &mut Noise, dump: &mut Builder) -> Asked {
     let map = version_map(noise, dump);
     let call = noise.pick(&[VERSION, FLASH_ENCRYPTION, INIT_CODE, INIT_CODE, CAL_CODE, CAL_CODE]);
-    let (unit, atten) = (noise.below(2) as u8, noise.below(4) as u8);
-    let mut asked = Asked { map, length: 16, words: 88, call, version: 0, unit, atten, param: 0 };
+    let mut asked = on_map(noise, map, call);
     if noise.once_in(4) {
         for _ in 0..noise.within(1, 2) {
             match noise.below(5) {
@@ -106,23 +120,33 @@ fn any_call(noise: &mut Noise, dump: &mut Builder) -> Asked {
     asked
 }
 
-/// A dump and 64 cases.
+/// Cases that share a dump.
+const CASES: usize = 64;
+
+/// A dump whose table's bits stay as they are.
+fn with_table(dump: Dump) -> Builder {
+    Builder::new(dump).keep(2)
+}
+
+/// A dump and its cases; any calls make up the number.
+fn put_group(list: &mut List, noise: &mut Noise, mut dump: Builder, mut cases: Vec<Asked>) {
+    cases.resize_with(CASES, || any_call(noise, &mut dump));
+    list.words(&dump.dump);
+    cases.iter().for_each(|case| case.put(list, &dump));
+}
+
+/// A dump and 64 cases; last those of bad maps.
 pub fn calls() -> List {
-    const CASES: usize = 64;
-    let mut list = List::new("esp32s2_cases", "calls", 352 + 28 * CASES);
+    let mut list = List::new("esp32s2_cases", "calls", 352 + 32 * CASES);
     let noise = &mut Noise::new(8);
     let mut group = |noise: &mut Noise, dump, asked: &[(u8, u8, u8, u8, u8)]| {
-        // The table's bits stay as the dump has them.
-        let mut dump = Builder::new(dump).keep(2);
         let mut cases = Vec::new();
         for &(call, version, unit, atten, param) in asked {
             let map = any_map(noise, MapChip::S2);
             let words = any_words(noise);
             cases.push(Asked { map, length: 16, words, call, version, unit, atten, param });
         }
-        cases.resize_with(CASES, || any_call(noise, &mut dump));
-        list.words(&dump.dump);
-        cases.iter().for_each(|case| case.put(&mut list, &dump));
+        put_group(&mut list, noise, with_table(dump), cases);
     };
     for dump in [ZEROS, ONES] {
         group(noise, dump, &tags());
@@ -134,6 +158,15 @@ pub fn calls() -> List {
     for cases in [whole(READING), whole(SKIPPED), whole(CAL_MV)].concat().chunks(CASES) {
         let dump = noise.dump();
         group(noise, dump, cases);
+    }
+    for faults in bad_maps().chunks(CASES) {
+        let mut dump = with_table(noise.dump());
+        let mut cases = Vec::new();
+        for (call, fault) in faults {
+            let map = changed(&version_map(noise, &mut dump), fault);
+            cases.push(on_map(noise, map, *call));
+        }
+        put_group(&mut list, noise, dump, cases);
     }
     list
 }

@@ -1,26 +1,53 @@
 //! Document 01's refusals, as document 02 has changed them, written down a second time, away from the proved library: each rule gives
-//! its number.
+//! its number, and a map's rules tell the record too.
 use crate::curve::Chip;
 use crate::document::TwoPoints;
 use crate::fields::{Field, field_of, read_u32};
 use crate::line::Record;
 use crate::{Dump, document};
 
-/// A value, or the number that document 01 gives where a call is turned down.
-pub type Answer<T> = Result<T, u8>;
+/// Why a call is turned down.
+#[derive(Debug, Clone, Copy, PartialEq, Eq)]
+pub struct Refusal {
+    pub number: u8,
+    /// Document 02, #102: the number of a map's bad record, from 0, where one is told.
+    pub record: Option<u8>,
+    /// The place in that record of a byte that should be zero, where one is told.
+    pub place: Option<u8>,
+}
+
+impl Refusal {
+    /// A refusal that tells no record.
+    pub const fn numbered(number: u8) -> Self {
+        Self { number, record: None, place: None }
+    }
+
+    /// Number, record and place as C and the lists have them: 0 where none is told.
+    pub fn bytes(self) -> [u8; 3] {
+        [self.number, self.record.unwrap_or(0), self.place.unwrap_or(0)]
+    }
+}
+
+/// A value, or why the call is turned down.
+pub type Answer<T> = Result<T, Refusal>;
+
+/// Number, record and place of an answer, zeros for a good one.
+pub fn refusal_bytes<T>(answer: &Answer<T>) -> [u8; 3] {
+    answer.as_ref().err().map_or([0; 3], |refusal| refusal.bytes())
+}
 
 /// The number of an answer, 0 for a good one.
 pub fn number<T>(answer: &Answer<T>) -> u8 {
-    answer.as_ref().err().copied().unwrap_or(0)
+    refusal_bytes(answer)[0]
 }
 
 fn refuse(wrong: bool, number: u8) -> Answer<()> {
-    if wrong { Err(number) } else { Ok(()) }
+    if wrong { Err(Refusal::numbered(number)) } else { Ok(()) }
 }
 
 /// 1: the dump hasn't 88 words.
 pub fn dump(words: &[u32]) -> Answer<&Dump> {
-    words.try_into().map_err(|_| 1)
+    words.try_into().map_err(|_| Refusal::numbered(1))
 }
 
 /// The chips that have a field map.
@@ -31,13 +58,16 @@ pub enum MapChip {
     C6,
 }
 
+/// An id of a map, with its least and its largest bit count.
+pub type Row = (u8, u8, u8);
+
 /// Bytes of a map's record, and of a log's.
 pub const RECORD: usize = 8;
 pub const SAMPLE: usize = 4;
 
 impl MapChip {
-    /// The chip's ids with the least and the largest bit count of each: document 01's table.
-    pub fn rows(self) -> Vec<(u8, u8, u8)> {
+    /// The chip's ids: document 01's table.
+    pub fn rows(self) -> Vec<Row> {
         let all = [
             (1, 1, 5, 5),
             (2, 2, 1, 1),
@@ -64,16 +94,23 @@ pub fn place(field: Field) -> Answer<()> {
     refuse(field.bit_start > 255 || u32::from(field.bit_start) + u32::from(field.bit_count) > 256, 5)
 }
 
-/// 2: the map's length isn't its chip's; then for each record 3: its id or a zero byte is wrong, 4 and 5: its place, 6: its
-/// bit count is not as in the table.
+/// A map's record: 3: its id is wrong; 18: a byte among its last three isn't zero, and the first such tells its place; 4 and 5: its
+/// field's place; 6: its bit count is not as in the table.
+fn map_record(record: &[u8], (id, least, largest): Row) -> Answer<()> {
+    refuse(record[0] != id, 3)?;
+    for at in [5, 6, 7] {
+        refuse(record[at] != 0, 18).map_err(|refusal| Refusal { place: Some(at as u8), ..refusal })?;
+    }
+    place(field_of(record, 0))?;
+    refuse(!(least..=largest).contains(&record[4]), 6)
+}
+
+/// 2: the map's length isn't its chip's; then its records from first to last, and the first bad one tells its number.
 pub fn map(chip: MapChip, map: &[u8]) -> Answer<()> {
     let rows = chip.rows();
     refuse(map.len() != RECORD * rows.len(), 2)?;
-    for (k, (id, least, largest)) in rows.into_iter().enumerate() {
-        let record = &map[RECORD * k..][..RECORD];
-        refuse(record[0] != id || record[5..] != [0, 0, 0], 3)?;
-        place(field_of(map, k))?;
-        refuse(!(least..=largest).contains(&record[4]), 6)?;
+    for (k, (record, row)) in map.chunks(RECORD).zip(rows).enumerate() {
+        map_record(record, row).map_err(|refusal| Refusal { record: Some(k as u8), ..refusal })?;
     }
     Ok(())
 }

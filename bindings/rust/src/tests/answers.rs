@@ -1,29 +1,7 @@
 //! Each call once or more, answered and refused; what is particular to Rust. The answers themselves are compared with esp-hal's by
 //! tests/oracle, through this crate.
-use std::error::Error;
-
+use super::inputs::{c6_map, esp32_map, refused, s2_map, ONES, ZEROS};
 use crate::*;
-
-const ZEROS: [u32; DUMP_WORDS] = [0; DUMP_WORDS];
-const ONES: [u32; DUMP_WORDS] = [u32::MAX; DUMP_WORDS];
-
-/// A map with one word of blocks 0 and 1 for each field: first id, and the fields' widths.
-fn map(first: u8, widths: &[u8]) -> Vec<u8> {
-    let record = |(k, width): (u8, &u8)| [first + k, k / 8, k % 8 * 32, 0, *width, 0, 0, 0];
-    (0..).zip(widths).flat_map(record).collect()
-}
-
-fn esp32_map() -> Vec<u8> {
-    map(1, &[5, 1, 7, 7, 9, 9])
-}
-
-fn s2_map() -> Vec<u8> {
-    map(7, &[8, 8])
-}
-
-fn c6_map() -> Vec<u8> {
-    map(9, &[15, 15, 15, 15, 10, 10, 10, 10, 4, 4, 4, 4, 4, 4, 4])
-}
 
 fn record() -> LineRecord {
     LineRecord::decode(&ZEROS, &esp32_map(), Unit::ADC1, Attenuation::DB_11).unwrap()
@@ -37,10 +15,10 @@ fn a_record_converts() {
     for (count, mv) in [(0, 142), (2880, 2462), (2912, 2483), (2944, 2502), (4095, 3134)] {
         assert_eq!(record().convert(Count(count)), Ok(Millivolt(mv)));
     }
-    assert_eq!(record().convert(Count(4096)), Err(Refusal::Raw));
+    assert_eq!(record().convert(Count(4096)), refused(Reason::Raw));
     let bad = LineRecord { vref: 994, ..record() };
-    assert_eq!((record().check(), bad.check()), (Ok(()), Err(Refusal::LineRecord)));
-    assert_eq!(bad.convert(Count(4096)), Err(Refusal::LineRecord));
+    assert_eq!((record().check(), bad.check()), (Ok(()), refused(Reason::LineRecord)));
+    assert_eq!(bad.convert(Count(4096)), refused(Reason::LineRecord));
 }
 
 #[test]
@@ -48,13 +26,13 @@ fn decoding_refuses_in_order() {
     let map = esp32_map();
     let decode_at = |dump: &[u32], map: &[u8], unit, attenuation| LineRecord::decode(dump, map, Unit(unit), attenuation);
     let decode = |dump: &[u32], map: &[u8], unit| decode_at(dump, map, unit, Attenuation::DB_0);
-    assert_eq!(decode(&ZEROS[1..], &map[1..], 2), Err(Refusal::Dump));
-    assert_eq!(decode(&ZEROS, &map[1..], 2), Err(Refusal::Unit));
-    assert_eq!(decode(&ZEROS, &map[1..], 1), Err(Refusal::Map));
+    assert_eq!(decode(&ZEROS[1..], &map[1..], 2), refused(Reason::Dump));
+    assert_eq!(decode(&ZEROS, &map[1..], 2), refused(Reason::Unit));
+    assert_eq!(decode(&ZEROS, &map[1..], 1), refused(Reason::Map));
     // low code 63, high code -68: the first that is refused at 0 dB; at 11 dB it isn't
     let mut dump = ZEROS;
     dump[..6].copy_from_slice(&[0, 1, 63, 1, 0x1BC, 1]);
-    assert_eq!(decode(&dump, &map, 0), Err(Refusal::Underflow));
+    assert_eq!(decode(&dump, &map, 0), refused(Reason::Underflow));
     assert_eq!(decode_at(&dump, &map, 0, Attenuation::DB_11).map(|record| record.coeff_b), Ok(53));
     dump[4] = 0x1BD;
     assert_eq!(decode(&dump, &map, 0).map(|record| record.coeff_b), Ok(0));
@@ -65,9 +43,9 @@ fn a_fill_writes_its_part_alone() {
     let mut list = [Millivolt(7); 6];
     assert_eq!(record().fill(Count(2880), &mut list[2..4]), Ok(()));
     assert_eq!(list.map(|mv| mv.0), [7, 7, 2462, 2463, 7, 7]);
-    assert_eq!(record().fill(Count(4095), &mut list[2..4]), Err(Refusal::Stretch));
+    assert_eq!(record().fill(Count(4095), &mut list[2..4]), refused(Reason::Stretch));
     assert_eq!(list.map(|mv| mv.0), [7, 7, 2462, 2463, 7, 7]);
-    assert_eq!((record().fill(Count(4096), &mut []), record().fill(Count(4097), &mut [])), (Ok(()), Err(Refusal::Stretch)));
+    assert_eq!((record().fill(Count(4096), &mut []), record().fill(Count(4097), &mut [])), (Ok(()), refused(Reason::Stretch)));
 }
 
 #[test]
@@ -80,11 +58,11 @@ fn a_table_holds_the_answers() {
     }
     assert_eq!(table[Count(4095)], table.millivolts()[4095]);
     let (before, other) = (table.clone(), board.record(Unit::ADC2, Attenuation::DB_0).unwrap());
-    assert_eq!(table.refill(LineRecord { unit: Unit(2), ..other }), Err(Refusal::LineRecord));
+    assert_eq!(table.refill(LineRecord { unit: Unit(2), ..other }), refused(Reason::LineRecord));
     assert_eq!(table, before);
     table.refill(other).unwrap();
     assert_eq!((table[Count(4095)], Ok(table)), (other.convert(Count(4095)).unwrap(), other.table()));
-    assert_eq!(board.table(Unit(2), Attenuation::DB_0), Err(Refusal::Unit));
+    assert_eq!(board.table(Unit(2), Attenuation::DB_0), refused(Reason::Unit));
 }
 
 #[test]
@@ -103,11 +81,11 @@ fn fields() {
     let mut bytes = [9; 6];
     assert_eq!(field.read_le(&dump, &mut bytes[..5]), Ok(()));
     assert_eq!(bytes, [0xFF, 0xFF, 0x7F, 0, 0, 9]);
-    assert_eq!(field.read_le(&dump[1..], &mut bytes), Err(Refusal::Dump));
+    assert_eq!(field.read_le(&dump[1..], &mut bytes), refused(Reason::Dump));
     assert_eq!(bytes, [0xFF, 0xFF, 0x7F, 0, 0, 9]);
-    assert_eq!(Field { block: 11, ..field }.read_u8(&dump), Err(Refusal::Block));
-    assert_eq!(Field { bit_start: 234, ..field }.read_u16(&dump), Err(Refusal::BitRange));
-    assert_eq!(field.read_u32(&[]), Err(Refusal::Dump));
+    assert_eq!(Field { block: 11, ..field }.read_u8(&dump), refused(Reason::Block));
+    assert_eq!(Field { bit_start: 234, ..field }.read_u16(&dump), refused(Reason::BitRange));
+    assert_eq!(field.read_u32(&[]), refused(Reason::Dump));
 }
 
 #[test]
@@ -115,19 +93,9 @@ fn maps() {
     assert_eq!((esp32_map().len(), s2_map().len(), c6_map().len()), (ESP32_MAP_BYTES, S2_MAP_BYTES, C6_MAP_BYTES));
     for (chip, good) in [(Chip::ESP32, esp32_map()), (Chip::S2, s2_map()), (Chip::C6, c6_map())] {
         assert_eq!(check_map(chip, &good), Ok(()));
-        assert_eq!(check_map(Chip::C3, &good), Err(Refusal::Map));
-        let with = |place: usize, byte| {
-            let mut map = good.clone();
-            map[place] = byte;
-            check_map(chip, &map)
-        };
-        assert_eq!([with(0, 0), with(7, 1)], [Err(Refusal::MapRecord); 2]);
-        assert_eq!(
-            [with(1, 11), with(3, 1), with(4, 0)],
-            [Err(Refusal::Block), Err(Refusal::BitRange), Err(Refusal::BitCount)]
-        );
+        assert_eq!(check_map(Chip::C3, &good), refused(Reason::Map));
     }
-    assert_eq!(check_map(Chip::ESP32, &[]), Err(Refusal::Map));
+    assert_eq!(check_map(Chip::ESP32, &[]), refused(Reason::Map));
 }
 
 #[test]
@@ -136,8 +104,8 @@ fn a_view_is_a_part_of_its_dump() {
     let (field, reference) = (session.view(0, 3).unwrap(), session.view(1, 10).unwrap());
     assert_eq!(field.as_ptr_range(), session.field[24..32].as_ptr_range());
     assert_eq!(reference.as_ptr_range(), session.reference[80..].as_ptr_range());
-    assert_eq!((session.view(2, 10), session.view(1, 11)), (Err(Refusal::Board), Err(Refusal::Block)));
-    assert_eq!(Session { reference: &[], ..session }.view(1, 11), Err(Refusal::Dump));
+    assert_eq!((session.view(2, 10), session.view(1, 11)), (refused(Reason::Board), refused(Reason::Block)));
+    assert_eq!(Session { reference: &[], ..session }.view(1, 11), refused(Reason::Dump));
 }
 
 #[test]
@@ -148,9 +116,9 @@ fn samples_go_by_their_board() {
     let other = LineRecord::decode(&ONES, &map, Unit::ADC1, Attenuation::DB_11).unwrap();
     assert_eq!(session.sample(&map, sample), Ok(Millivolt(2462)));
     assert_eq!(session.sample(&map, Sample { board: 1, ..sample }), other.convert(Count(2880)));
-    assert_eq!(session.sample(&map, Sample { last: 8, ..sample }), Err(Refusal::Board));
-    assert_eq!(session.sample(&map, Sample { raw: Count(4096), ..sample }), Err(Refusal::Raw));
-    assert_eq!(session.sample(&[], sample), Err(Refusal::Map));
+    assert_eq!(session.sample(&map, Sample { last: 8, ..sample }), refused(Reason::Board));
+    assert_eq!(session.sample(&map, Sample { raw: Count(4096), ..sample }), refused(Reason::Raw));
+    assert_eq!(session.sample(&[], sample), refused(Reason::Map));
 }
 
 #[test]
@@ -158,12 +126,12 @@ fn a_torn_log_ends_with_a_refusal() {
     let first = Sample { raw: Count(2880), board: 1, last: 3 };
     let bytes = [0x40, 0x0B, 1, 3, 0];
     let mut log = Log::new(&bytes);
-    assert_eq!([log.next(), log.next(), log.next(), log.next()], [Some(Ok(first)), Some(Err(Refusal::Log)), None, None]);
+    assert_eq!([log.next(), log.next(), log.next(), log.next()], [Some(Ok(first)), Some(refused(Reason::Log)), None, None]);
     assert!(Log::new(&bytes[..4]).eq([Ok(first)]));
     assert_eq!(Log::new(&[]).next(), None);
     assert_eq!(
         (next_sample(&bytes), next_sample(&bytes[..3]), next_sample(&[])),
-        (Ok(Some(first)), Err(Refusal::Log), Ok(None))
+        (Ok(Some(first)), refused(Reason::Log), Ok(None))
     );
 }
 
@@ -172,9 +140,12 @@ fn curves() {
     let at = |chip, minor, unit, mv| correct(chip, minor, unit, Attenuation::DB_11, Millivolt(mv));
     assert_eq!((at(Chip::C3, 0, Unit::ADC1, 1), at(Chip::S3, 0, Unit::ADC2, 1)), (Ok(Millivolt(2)), Ok(Millivolt(0))));
     assert_ne!(at(Chip::C6, 1, Unit::ADC1, 4095), at(Chip::C6, 2, Unit::ADC1, 4095));
-    assert_eq!(at(Chip::C3, 0, Unit(2), 4096), Err(Refusal::Unit));
-    assert_eq!((at(Chip::S2, 0, Unit::ADC1, 4096), at(Chip(9), 0, Unit::ADC1, 1)), (Err(Refusal::Curve), Err(Refusal::Curve)));
-    assert_eq!(at(Chip::C3, 0, Unit::ADC1, 4096), Err(Refusal::LineAnswer));
+    assert_eq!(at(Chip::C3, 0, Unit(2), 4096), refused(Reason::Unit));
+    assert_eq!(
+        (at(Chip::S2, 0, Unit::ADC1, 4096), at(Chip(9), 0, Unit::ADC1, 1)),
+        (refused(Reason::Curve), refused(Reason::Curve))
+    );
+    assert_eq!(at(Chip::C3, 0, Unit::ADC1, 4096), refused(Reason::LineAnswer));
 }
 
 #[test]
@@ -185,26 +156,26 @@ fn the_s2() {
     assert_eq!(s2::reading_vinit(&ONES, 2, unit, Attenuation::DB_11), Ok(1277));
     assert_eq!(s2::reading_vhigh(&ONES, 2, other, Attenuation::DB_11), Ok(5077));
     assert_eq!(s2::reading_vlow(&ZEROS, 1, unit, Attenuation::DB_0), Ok(2231));
-    assert_eq!(s2::reading_vlow(&[], 1, Unit(2), Attenuation::DB_0), Err(Refusal::Dump));
+    assert_eq!(s2::reading_vlow(&[], 1, Unit(2), Attenuation::DB_0), refused(Reason::Dump));
     assert_eq!(s2::skipped_vlow(1, other, Attenuation::DB_11), Ok(723));
     assert_eq!(s2::skipped_vhigh(2, unit, Attenuation::DB_0), Ok(6110));
     assert_eq!(s2::skipped_vinit(2, other, Attenuation::DB_11), Ok(1719));
-    assert_eq!(s2::skipped_vinit(2, other, Attenuation(4)), Err(Refusal::Unit));
+    assert_eq!(s2::skipped_vinit(2, other, Attenuation(4)), refused(Reason::Unit));
     assert_eq!(
         (s2::cal_mv(other, Attenuation::DB_11), s2::cal_mv(Unit(2), Attenuation::DB_0)),
-        (Ok(Millivolt(2000)), Err(Refusal::Unit))
+        (Ok(Millivolt(2000)), refused(Reason::Unit))
     );
     let map = s2_map();
     let mut dump = ZEROS;
     let code =
         |dump: &[u32]| (s2::init_code(dump, &map, unit, Attenuation::DB_11), s2::cal_code(dump, &map, unit, Attenuation::DB_0));
-    assert_eq!(code(&dump), (Err(Refusal::NoCode), Err(Refusal::NoCode)));
+    assert_eq!(code(&dump), (refused(Reason::NoCode), refused(Reason::NoCode)));
     dump[0] = 2;
     assert_eq!((s2::version(&dump, &map), code(&dump)), (Ok(2), (Ok(1685), Ok(6110))));
     assert_eq!(s2::flash_encryption(&dump, &map), Ok(false));
     dump[1] = 7;
     assert_eq!(s2::flash_encryption(&dump, &map), Ok(true));
-    assert_eq!((s2::version(&dump, &map[1..]), s2::flash_encryption(&dump, &[])), (Err(Refusal::Map), Err(Refusal::Map)));
+    assert_eq!((s2::version(&dump, &map[1..]), s2::flash_encryption(&dump, &[])), (refused(Reason::Map), refused(Reason::Map)));
 }
 
 #[test]
@@ -217,16 +188,16 @@ fn the_c6() {
     dump[14] = 0xF; // id 23
     assert_eq!([0, 1, 2, 255].map(c6::version), [0, 1, 2, 2]);
     assert_eq!(c6::init_code(&dump, &map, 1, unit, Attenuation::DB_0), Ok(34367));
-    assert_eq!(c6::init_code(&dump, &map, 0, unit, Attenuation::DB_0), Err(Refusal::NoCode));
+    assert_eq!(c6::init_code(&dump, &map, 0, unit, Attenuation::DB_0), refused(Reason::NoCode));
     assert_eq!(c6::cal_code(&dump, &map, 2, unit, Attenuation::DB_6), Ok(2900));
     assert_eq!(c6::cal_code(&dump, &map, 1, unit, Attenuation::DB_0), Ok(989));
-    assert_eq!(c6::cal_code(&dump, &map[1..], 0, unit, Attenuation::DB_0), Err(Refusal::Map));
+    assert_eq!(c6::cal_code(&dump, &map[1..], 0, unit, Attenuation::DB_0), refused(Reason::Map));
     assert_eq!(c6::get_chan_compens(&dump, &map, unit, 255, Attenuation::DB_0), Ok(-28));
     assert_eq!(c6::get_chan_compens(&dump, &map, unit, 6, Attenuation::DB_11), Ok(-7));
     assert_eq!(c6::get_chan_compens(&dump, &map, unit, 5, Attenuation::DB_11), Ok(0));
-    assert_eq!(c6::get_chan_compens(&dump, &map, unit, 5, Attenuation(4)), Err(Refusal::Unit));
+    assert_eq!(c6::get_chan_compens(&dump, &map, unit, 5, Attenuation(4)), refused(Reason::Unit));
     assert_eq!([1, 2].map(|minor| c6::cal_mv(minor, unit, Attenuation::DB_6)), [Ok(Millivolt(750)), Ok(Millivolt(1500))]);
-    assert_eq!(c6::cal_mv(1, Unit(2), Attenuation::DB_6), Err(Refusal::Unit));
+    assert_eq!(c6::cal_mv(1, Unit(2), Attenuation::DB_6), refused(Reason::Unit));
 }
 
 #[test]
@@ -234,20 +205,8 @@ fn a_dump_file_is_352_bytes_low_first() {
     let bytes: Vec<u8> = (0..352).map(|k| k as u8).collect();
     let dump = dump_from_bytes(&bytes).unwrap();
     assert_eq!((dump[0], dump[87]), (0x0302_0100, 0x5F5E_5D5C));
-    assert_eq!(dump_from_bytes(&bytes[1..]), Err(Refusal::Dump));
-    assert_eq!(dump_from_bytes(&[]), Err(Refusal::Dump));
-}
-
-#[test]
-fn a_refusal_keeps_its_number() {
-    assert_eq!(Refusal::from_number(0), None);
-    for number in 1..=255 {
-        assert_eq!(Refusal::from_number(number).map(Refusal::number), Some(number));
-    }
-    assert_eq!(Refusal::from_number(200), Some(Refusal::Unknown(200)));
-    let error: Box<dyn Error> = Box::new(Refusal::Raw);
-    assert_eq!(error.to_string(), "count above 4095 (refusal 8)");
-    assert_eq!(Refusal::Unknown(200).to_string(), "a refusal that this binding doesn't know (refusal 200)");
+    assert_eq!(dump_from_bytes(&bytes[1..]), refused(Reason::Dump));
+    assert_eq!(dump_from_bytes(&[]), refused(Reason::Dump));
 }
 
 #[test]

@@ -1,6 +1,6 @@
 //! Nothing of include/suongkivat.h is forgotten or declared otherwise: the header's text, written as Rust, is the text of raw.rs; its
 //! numbers and words are the crate's.
-use crate::{Chip, Refusal, C6_MAP_BYTES, COUNTS, DUMP_WORDS, ESP32_MAP_BYTES, S2_MAP_BYTES, SAMPLE_BYTES, VERSION};
+use crate::{Chip, Reason, C6_MAP_BYTES, COUNTS, DUMP_WORDS, ESP32_MAP_BYTES, S2_MAP_BYTES, SAMPLE_BYTES, VERSION};
 
 const HEADER: &str = include_str!("../../../../include/suongkivat.h");
 const RULES: &str = include_str!("../../../../docs/RULES.md");
@@ -98,9 +98,9 @@ fn enumerated(header: &str) -> Vec<(&str, usize, &str)> {
     parts.collect()
 }
 
-/// `MapRecord` as `SKV_MAP_RECORD`.
-fn c_name(refusal: Refusal) -> String {
-    let name = format!("{refusal:?}");
+/// `MapByte` as `SKV_MAP_BYTE`.
+fn c_name(reason: Reason) -> String {
+    let name = format!("{reason:?}");
     let parted = name.char_indices().map(|(k, c)| if k > 0 && c.is_uppercase() { format!("_{c}") } else { c.to_string() });
     format!("SKV_{}", parted.collect::<String>().to_uppercase())
 }
@@ -146,6 +146,7 @@ fn another_header_shows() {
     for (from, to) in [
         ("int32_t value;\n} SkvReading", "uint32_t value;\n} SkvReading"),
         ("uint8_t use_lut;", ""),
+        ("uint8_t record;\n    uint8_t place;", "uint8_t place;\n    uint8_t record;"),
         ("uint16_t mv;", "uint16_t v;"),
     ] {
         assert_ne!(header_structs(&changed(from, to)), raw_structs(), "{from}");
@@ -157,7 +158,7 @@ fn every_refusal_has_the_headers_number_name_and_words() {
     let first = enumerated(HEADER).iter().position(|(name, ..)| *name == "SKV_NONE").expect("the refusals");
     let after = enumerated(HEADER).iter().position(|(name, ..)| *name == "SKV_ESP32").expect("the chips");
     let ours: Vec<_> =
-        Refusal::ALL.iter().map(|refusal| (c_name(*refusal), usize::from(refusal.number()), refusal.words())).collect();
+        Reason::ALL.iter().map(|reason| (c_name(*reason), usize::from(reason.number()), reason.words())).collect();
     let header: Vec<_> =
         enumerated(HEADER)[first + 1..after].iter().map(|(name, number, words)| (name.to_string(), *number, *words)).collect();
     assert_eq!(ours, header);
@@ -165,11 +166,11 @@ fn every_refusal_has_the_headers_number_name_and_words() {
 
 #[test]
 fn what_to_do_is_what_the_rules_say() {
-    for refusal in Refusal::ALL {
-        let row = RULES.lines().find(|line| line.starts_with(&format!("| {} | `{}` |", refusal.number(), c_name(*refusal))));
-        let cells: Vec<&str> = row.unwrap_or_else(|| panic!("no row of {refusal}")).split('|').collect();
+    for reason in Reason::ALL {
+        let row = RULES.lines().find(|line| line.starts_with(&format!("| {} | `{}` |", reason.number(), c_name(*reason))));
+        let cells: Vec<&str> = row.unwrap_or_else(|| panic!("no row of {reason}")).split('|').collect();
         let told = without_links(cells[4]);
-        assert!(told.trim().starts_with(refusal.advice()), "{refusal}: {told}");
+        assert!(told.trim().starts_with(reason.advice()), "{reason}: {told}");
     }
 }
 
@@ -186,7 +187,7 @@ fn chips_and_lengths_are_the_headers() {
     ];
     ours.extend(lengths.map(|(name, length)| (name.to_string(), length)));
     ours.sort();
-    let refusals: Vec<_> = Refusal::ALL.iter().map(|refusal| c_name(*refusal)).chain(["SKV_NONE".to_string()]).collect();
+    let refusals: Vec<_> = Reason::ALL.iter().map(|reason| c_name(*reason)).chain(["SKV_NONE".to_string()]).collect();
     let all = enumerated(HEADER).into_iter().map(|(name, number, _)| (name.to_string(), number));
     let mut header: Vec<_> = all.filter(|(name, _)| !refusals.contains(name)).collect();
     header.sort();

@@ -1,16 +1,16 @@
 //! Faults of the C6.
-use super::{bits, good, swapped, twos_complement};
+use super::{bits, good, refused, swapped, twos_complement};
 use crate::library::PROVED;
 use crate::told::Told;
 
 pub fn others_base(dump: &[u32], map: &[u8], minor: u8, unit: u8, atten: u8) -> Told<u16> {
     let told = (PROVED.c6_cal_code)(dump, map, minor, unit, atten);
-    if told.number == 0 && minor >= 2 && atten == 2 { good(told.value - 50) } else { told }
+    if told.refused.number() == 0 && minor >= 2 && atten == 2 { good(told.value - 50) } else { told }
 }
 
 pub fn init_code_of_14_bits(dump: &[u32], map: &[u8], minor: u8, unit: u8, atten: u8) -> Told<u16> {
     let told = (PROVED.c6_init_code)(dump, map, minor, unit, atten);
-    let lost = told.number == 0 && bits(dump, map, atten.into()) >= 1 << 14;
+    let lost = told.refused.number() == 0 && bits(dump, map, atten.into()) >= 1 << 14;
     if lost { good(told.value - (1 << 14)) } else { told }
 }
 
@@ -21,7 +21,7 @@ pub fn channel_0_above_6(dump: &[u32], map: &[u8], unit: u8, channel: u8, atten:
 pub fn in_twos_complement(dump: &[u32], map: &[u8], unit: u8, channel: u8, atten: u8) -> Told<i32> {
     let told = (PROVED.c6_get_chan_compens)(dump, map, unit, channel, atten);
     let code = twos_complement(bits(dump, map, 8 + usize::from(channel.min(6))), 4);
-    if told.number == 0 { good(code * (4 - i32::from(atten))) } else { told }
+    if told.refused.number() == 0 { good(code * (4 - i32::from(atten))) } else { told }
 }
 
 pub fn version_3(minor: u8) -> u8 {
@@ -34,7 +34,7 @@ pub fn millivolts_of_unit_2(minor: u8, unit: u8, atten: u8) -> Told<u16> {
 
 pub fn version_before_map(dump: &[u32], map: &[u8], minor: u8, unit: u8, atten: u8) -> Told<u16> {
     let told = (PROVED.c6_init_code)(dump, map, minor, unit, atten);
-    if told.number == 2 && minor == 0 { Told { number: 12, ..told } } else { told }
+    if told.refused.number() == 2 && minor == 0 { refused(12) } else { told }
 }
 
 pub fn unit_before_dump(dump: &[u32], map: &[u8], unit: u8, channel: u8, atten: u8) -> Told<i32> {

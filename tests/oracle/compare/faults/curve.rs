@@ -10,14 +10,14 @@ const H2: u8 = 6;
 /// Where the answer is above the line the error is below 0, and flooring takes one more away from it.
 pub fn floored(chip: u8, minor: u8, unit: u8, atten: u8, line: u16) -> Told<u16> {
     let told = (PROVED.correct)(chip, minor, unit, atten, line);
-    if told.number == 0 && told.value > line { good(told.value + 1) } else { told }
+    if told.refused.number() == 0 && told.value > line { good(told.value + 1) } else { told }
 }
 
 /// Large enough that it shows from 4000 on.
 pub fn larger_coefficient(chip: u8, minor: u8, unit: u8, atten: u8, line: u16) -> Told<u16> {
     let told = (PROVED.correct)(chip, minor, unit, atten, line);
     let shows = (chip, unit, atten) == (H2, 0, 0) && line >= 4000;
-    if told.number == 0 && shows { good(told.value - 1) } else { told }
+    if told.refused.number() == 0 && shows { good(told.value - 1) } else { told }
 }
 
 pub fn first_table(chip: u8, minor: u8, unit: u8, atten: u8, line: u16) -> Told<u16> {
@@ -26,7 +26,7 @@ pub fn first_table(chip: u8, minor: u8, unit: u8, atten: u8, line: u16) -> Told<
 
 pub fn no_second_unit(chip: u8, minor: u8, unit: u8, atten: u8, line: u16) -> Told<u16> {
     let told = (PROVED.correct)(chip, minor, unit, atten, line);
-    if told.number == 0 && (chip, unit) == (C3, 1) { refused(14) } else { told }
+    if told.refused.number() == 0 && (chip, unit) == (C3, 1) { refused(14) } else { told }
 }
 
 pub fn line_4096(chip: u8, minor: u8, unit: u8, atten: u8, line: u16) -> Told<u16> {

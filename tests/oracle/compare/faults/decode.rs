@@ -1,8 +1,9 @@
 //! Faults of decoding.
 use oracle::document::{self, TwoPoints};
+use oracle::rules::Refusal;
 use suongkivat::{LineRecord, Unit};
 
-use super::{bits, good, refused, swapped, twos_complement, with_bits};
+use super::{bits, good, otherwise, refused, swapped, twos_complement, with_bits};
 use crate::library::PROVED;
 use crate::told::Told;
 
@@ -17,7 +18,7 @@ pub fn vref_in_twos_complement(dump: &[u32], map: &[u8], unit: u8, atten: u8) ->
 
 pub fn lookup_at_6_db(dump: &[u32], map: &[u8], unit: u8, atten: u8) -> Decoded {
     let mut told = (PROVED.decode)(dump, map, unit, atten);
-    told.value.use_lut = u8::from(told.number == 0 && atten >= 2);
+    told.value.use_lut = u8::from(told.refused.number() == 0 && atten >= 2);
     told
 }
 
@@ -29,7 +30,7 @@ pub fn other_unit_passed_over(dump: &[u32], map: &[u8], unit: u8, atten: u8) -> 
 
 pub fn plain_twos_complement(dump: &[u32], map: &[u8], unit: u8, atten: u8) -> Decoded {
     let told = (PROVED.decode)(dump, map, unit, atten);
-    if told.number != 0 || two_points(dump, map, unit, atten).is_none() {
+    if told.refused.number() != 0 || two_points(dump, map, unit, atten).is_none() {
         return told;
     }
     let code = |k, width| twos_complement(bits(dump, map, k + usize::from(unit)), width);
@@ -47,20 +48,20 @@ fn two_points(dump: &[u32], map: &[u8], unit: u8, atten: u8) -> Option<TwoPoints
 /// b by Vref is never 0.
 pub fn b_of_0_refused(dump: &[u32], map: &[u8], unit: u8, atten: u8) -> Decoded {
     let told = (PROVED.decode)(dump, map, unit, atten);
-    if told.number == 0 && told.value.coeff_b == 0 { refused(9) } else { told }
+    if told.refused.number() == 0 && told.value.coeff_b == 0 { refused(9) } else { told }
 }
 
 /// The rule before document 02: 9 wherever t is above 850.
 pub fn offset_passed_over(dump: &[u32], map: &[u8], unit: u8, atten: u8) -> Decoded {
     let told = (PROVED.decode)(dump, map, unit, atten);
     let above = || two_points(dump, map, unit, atten).is_some_and(|points| points.t > 850);
-    if told.number == 0 && above() { refused(9) } else { told }
+    if told.refused.number() == 0 && above() { refused(9) } else { told }
 }
 
 /// A difference that stops at 0, so that t above 850 leaves the offset alone.
 pub fn cut_at_zero(dump: &[u32], map: &[u8], unit: u8, atten: u8) -> Decoded {
     let mut told = (PROVED.decode)(dump, map, unit, atten);
-    if let Some(points) = two_points(dump, map, unit, atten).filter(|points| told.number == 0 && points.t > 850) {
+    if let Some(points) = two_points(dump, map, unit, atten).filter(|points| told.refused.number() == 0 && points.t > 850) {
         told.value.coeff_b = (points.b + points.t - 850) as u32;
     }
     told
@@ -69,7 +70,8 @@ pub fn cut_at_zero(dump: &[u32], map: &[u8], unit: u8, atten: u8) -> Decoded {
 /// b as a build without overflow checks has it, whatever its sign.
 pub fn wrapped_around(dump: &[u32], map: &[u8], unit: u8, atten: u8) -> Decoded {
     let told = (PROVED.decode)(dump, map, unit, atten);
-    let Some(TwoPoints { a, b, .. }) = (told.number == 9).then(|| two_points(dump, map, unit, atten)).flatten() else {
+    let Some(TwoPoints { a, b, .. }) = (told.refused.number() == 9).then(|| two_points(dump, map, unit, atten)).flatten()
+    else {
         return told;
     };
     let vref = document::vref(bits(dump, map, 0)) as u32;
@@ -78,7 +80,7 @@ pub fn wrapped_around(dump: &[u32], map: &[u8], unit: u8, atten: u8) -> Decoded 
 
 pub fn refusal_with_vref(dump: &[u32], map: &[u8], unit: u8, atten: u8) -> Decoded {
     let mut told = (PROVED.decode)(dump, map, unit, atten);
-    if told.number == 9 {
+    if told.refused.number() == 9 {
         told.value.vref = 1100;
     }
     told
@@ -94,4 +96,18 @@ pub fn map_before_unit(dump: &[u32], map: &[u8], unit: u8, atten: u8) -> Decoded
 
 pub fn longer_dump(dump: &[u32], map: &[u8], unit: u8, atten: u8) -> Decoded {
     (PROVED.decode)(&dump[..dump.len().min(88)], map, unit, atten)
+}
+
+/// 18 tells its record alone.
+pub fn place_lost(dump: &[u32], map: &[u8], unit: u8, atten: u8) -> Decoded {
+    let told = (PROVED.decode)(dump, map, unit, atten);
+    Told { refused: otherwise(told.refused, |refusal| Refusal { place: None, ..refusal }), ..told }
+}
+
+pub fn record_beside_good(dump: &[u32], map: &[u8], unit: u8, atten: u8) -> Decoded {
+    let mut told = (PROVED.decode)(dump, map, unit, atten);
+    if told.refused.number() == 0 {
+        told.refused.in_c[1] = 5;
+    }
+    told
 }

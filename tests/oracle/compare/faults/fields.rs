@@ -1,7 +1,8 @@
 //! Faults of fields and views.
 use oracle::fields::Field;
+use oracle::rules::Refusal;
 
-use super::{good, outcome, swapped};
+use super::{good, numbered, otherwise, outcome, swapped};
 use crate::library::PROVED;
 use crate::told::{Outcome, Told, View};
 
@@ -24,7 +25,7 @@ pub fn stops_at_word(dump: &[u32], field: Field) -> Told<u32> {
     let read = PROVED.read_field_u32;
     let told = read(dump, field);
     let in_word = field.bit_count.min(32 - field.bit_start % 32);
-    if told.number == 0 { read(dump, Field { bit_count: in_word, ..field }) } else { told }
+    if told.refused.number() == 0 { read(dump, Field { bit_count: in_word, ..field }) } else { told }
 }
 
 pub fn shift_by_32(dump: &[u32], field: Field) -> Told<u32> {
@@ -32,7 +33,7 @@ pub fn shift_by_32(dump: &[u32], field: Field) -> Told<u32> {
     let told = read(dump, field);
     let whole = field.bit_start % 32 == 0 && field.bit_count >= 32;
     let next = read(dump, Field { bit_start: field.bit_start.saturating_add(32), bit_count: 32, ..field });
-    if told.number == 0 && whole { good(told.value | next.value) } else { told }
+    if told.refused.number() == 0 && whole { good(told.value | next.value) } else { told }
 }
 
 pub fn longer_dump(dump: &[u32], field: Field) -> Told<u32> {
@@ -41,7 +42,24 @@ pub fn longer_dump(dump: &[u32], field: Field) -> Told<u32> {
 
 pub fn refusal_with_value(dump: &[u32], field: Field) -> Told<u32> {
     let told = (PROVED.read_field_u8)(dump, field);
-    if told.number == 0 { told } else { Told { number: told.number, ..good(field.bit_count.into()) } }
+    if told.refused.number() == 0 { told } else { Told { value: field.bit_count.into(), ..told } }
+}
+
+/// 4 with a record.
+fn with_record(refusal: Refusal, record: u8) -> Refusal {
+    if refusal.number == 4 { Refusal { record: Some(record), ..refusal } } else { refusal }
+}
+
+pub fn block_as_record(dump: &[u32], field: Field) -> Told<u32> {
+    let told = (PROVED.read_field_u16)(dump, field);
+    Told { refused: otherwise(told.refused, |refusal| with_record(refusal, field.block)), ..told }
+}
+
+/// C's bytes stay as they are: 0 is what it has where no record is told.
+pub fn record_in_rust(dump: &[u32], field: Field) -> Told<u32> {
+    let mut told = (PROVED.read_field_u32)(dump, field);
+    told.refused.in_rust = told.refused.in_rust.map(|refusal| with_record(refusal, 0));
+    told
 }
 
 pub fn written_on_refusal(dump: &[u32], field: Field, bytes: &mut [u8]) -> Outcome {
@@ -63,10 +81,15 @@ pub fn always_field(field: &[u32], reference: &[u32], board: u8, block: u8) -> V
 
 pub fn block_before_dump(field: &[u32], reference: &[u32], board: u8, block: u8) -> View {
     let view = (PROVED.view)(field, reference, board, block);
-    if view.number == 1 && block > 10 { View { number: 4, ..view } } else { view }
+    if view.refused.number() == 1 && block > 10 { View { refused: numbered(4), ..view } } else { view }
+}
+
+pub fn viewed_block_as_record(field: &[u32], reference: &[u32], board: u8, block: u8) -> View {
+    let view = (PROVED.view)(field, reference, board, block);
+    View { refused: otherwise(view.refused, |refusal| with_record(refusal, block)), ..view }
 }
 
 pub fn both_checked(field: &[u32], reference: &[u32], board: u8, block: u8) -> View {
     let other = (PROVED.view)(field, reference, 1 - board.min(1), block);
-    if board <= 1 && other.number == 1 { other } else { (PROVED.view)(field, reference, board, block) }
+    if board <= 1 && other.refused.number() == 1 { other } else { (PROVED.view)(field, reference, board, block) }
 }

@@ -16,14 +16,14 @@ pub fn unit_2(cal: LineRecord) -> Outcome {
 pub fn half_left_out(cal: LineRecord, raw: u16) -> Told<u16> {
     let told = (PROVED.convert)(cal, raw);
     let line = || cal.coeff_a * u32::from(raw) / 65536 + cal.coeff_b;
-    if told.number == 0 && cal.use_lut == 0 { good(line() as u16) } else { told }
+    if told.refused.number() == 0 && cal.use_lut == 0 { good(line() as u16) } else { told }
 }
 
 /// The entry at count 3520, seen there alone, and where the vref is low enough that it is the low list's.
 pub fn higher_entry(cal: LineRecord, raw: u16) -> Told<u16> {
     let told = (PROVED.convert)(cal, raw);
     let seen = cal.use_lut != 0 && raw == 3520 && cal.vref <= 1000;
-    if told.number == 0 && seen { good(told.value + 1) } else { told }
+    if told.refused.number() == 0 && seen { good(told.value + 1) } else { told }
 }
 
 pub fn other_units_lookup(cal: LineRecord, raw: u16) -> Told<u16> {

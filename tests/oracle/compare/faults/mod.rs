@@ -11,10 +11,10 @@ mod s2;
 
 use oracle::dumps::Builder;
 use oracle::fields::field_of;
-use oracle::rules::RECORD;
+use oracle::rules::{RECORD, Refusal};
 
 use crate::library::{Library, PROVED};
-use crate::told::{Outcome, Told};
+use crate::told::{Outcome, Refused, Told};
 
 pub struct Fault {
     pub name: &'static str,
@@ -40,6 +40,8 @@ faults! {
         "a whole word has the next one's bits too, by a shift of 32": read_field_u32 = fields::shift_by_32,
         "a longer dump is taken": read_field_u8 = fields::longer_dump,
         "a refusal carries a value": read_field_u8 = fields::refusal_with_value,
+        "4 tells the block as a record": read_field_u16 = fields::block_as_record,
+        "in Rust 4 tells record 0, as if of a map": read_field_u32 = fields::record_in_rust,
     }
     "fields into bytes" {
         "one lent byte is written on a refusal": read_field_le = fields::written_on_refusal,
@@ -49,17 +51,50 @@ faults! {
         "the reference board's view is the field board's": view = fields::always_field,
         "4 is asked for before 1": view = fields::block_before_dump,
         "both dumps are checked": view = fields::both_checked,
+        "4 tells the block as a record": view = fields::viewed_block_as_record,
     }
     "maps" {
         "the last zero byte isn't looked at": check_map = maps::zero_byte_passed_over,
         "6 is asked for before 5": check_map = maps::count_before_place,
         "the last record isn't looked at": check_map = maps::last_record_passed_over,
         "a C3 has the S2's map": check_map = maps::map_of_c3,
+        "the record told is one too high": check_map = maps::next_record,
+        "the last byte that isn't zero is told": check_map = maps::last_stray_byte,
+        "18 is asked for before 3": check_map = maps::byte_before_id,
+        "3 tells a byte's place too": check_map = maps::place_with_id,
+        "2 tells a record": check_map = maps::record_with_length,
+    }
+    "maps in decoding" {
+        "decode loses the record": decode = |dump, map, unit, atten| record_lost((PROVED.decode)(dump, map, unit, atten)),
+        "decode loses the place": decode = decode::place_lost,
+        "a sample loses the record": sample = |sample, field, reference, map| {
+            record_lost((PROVED.sample)(sample, field, reference, map))
+        },
+        "the S2's version loses the record": s2_version = |dump, map| record_lost((PROVED.s2_version)(dump, map)),
+        "flash encryption loses the record": s2_flash_encryption = |dump, map| {
+            record_lost((PROVED.s2_flash_encryption)(dump, map))
+        },
+        "the S2's initial code loses the record": s2_init_code = |dump, map, unit, atten| {
+            record_lost((PROVED.s2_init_code)(dump, map, unit, atten))
+        },
+        "the S2's code at the reference voltage loses the record": s2_cal_code = |dump, map, unit, atten| {
+            record_lost((PROVED.s2_cal_code)(dump, map, unit, atten))
+        },
+        "the C6's initial code loses the record": c6_init_code = |dump, map, minor, unit, atten| {
+            record_lost((PROVED.c6_init_code)(dump, map, minor, unit, atten))
+        },
+        "the C6's code at the reference voltage loses the record": c6_cal_code = |dump, map, minor, unit, atten| {
+            record_lost((PROVED.c6_cal_code)(dump, map, minor, unit, atten))
+        },
+        "a channel's compensation loses the record": c6_get_chan_compens = |dump, map, unit, channel, atten| {
+            record_lost((PROVED.c6_get_chan_compens)(dump, map, unit, channel, atten))
+        },
     }
     "decoding by Vref" {
         "Vref is read as two's complement": decode = decode::vref_in_twos_complement,
         "the lookup is set at 6 dB too": decode = decode::lookup_at_6_db,
         "the other unit's codes may be zero": decode = decode::other_unit_passed_over,
+        "in C a good answer has a record beside it": decode = decode::record_beside_good,
     }
     "decoding by two points" {
         "the codes are plain two's complement": decode = decode::plain_twos_complement,
@@ -166,24 +201,40 @@ pub fn named(name: &str) -> Option<Library> {
 }
 
 fn good<T>(value: T) -> Told<T> {
-    Told { number: 0, value }
+    Told { refused: Refused::NOT, value }
 }
 
 fn refused<T: Default>(number: u8) -> Told<T> {
-    Told { number, value: T::default() }
+    Told { refused: numbered(number), value: T::default() }
+}
+
+/// A refusal that tells no record; none for 0.
+fn numbered(number: u8) -> Refused {
+    if number == 0 { Refused::NOT } else { Refusal::numbered(number).into() }
+}
+
+/// Another refusal in place of one.
+fn otherwise(refused: Refused, other: impl FnOnce(Refusal) -> Refusal) -> Refused {
+    refused.in_rust.map_or(refused, |refusal| other(refusal).into())
+}
+
+/// The answer with a map's record lost on the way: the first is told.
+fn record_lost<T>(told: Told<T>) -> Told<T> {
+    let lost = |refusal: Refusal| Refusal { record: refusal.record.map(|_| 0), ..refusal };
+    Told { refused: otherwise(told.refused, lost), ..told }
 }
 
 /// The answer without the first of two refusals, where it was refused with that: what a call says that asks for the other one first.
 fn swapped<T>(told: Told<T>, first: u8, second: u8, without_first: impl FnOnce() -> Told<T>) -> Told<T> {
-    if told.number != first {
+    if told.refused.number() != first {
         return told;
     }
     let other = without_first();
-    if other.number == second { other } else { told }
+    if other.refused.number() == second { other } else { told }
 }
 
 fn outcome(number: u8) -> Outcome {
-    Outcome { number }
+    Outcome { refused: numbered(number) }
 }
 
 /// The bits of a map's field; 0 where there is no such field.
@@ -197,7 +248,7 @@ fn bits(dump: &[u32], map: &[u8], k: usize) -> u32 {
 /// The dump with other bits in a field of an ESP32 map, where the call isn't refused for its dump or map.
 fn with_bits(dump: &[u32], map: &[u8], k: usize, bits: u32) -> Vec<u32> {
     let Ok(whole) = dump.try_into() else { return dump.to_vec() };
-    if (PROVED.check_map)(0, map).number != 0 {
+    if (PROVED.check_map)(0, map) != outcome(0) {
         return dump.to_vec();
     }
     let mut dump = Builder::new(whole);

@@ -8,7 +8,7 @@ use crate::told::Told;
 pub fn other_dependency(dump: &[u32], version: u8, unit: u8, atten: u8) -> Told<i32> {
     let read = |atten| (PROVED.s2_reading_vhigh)(dump, version, unit, atten);
     let told = read(atten);
-    let tag_17 = (version, unit, atten) == (2, 0, 0) && told.number == 0;
+    let tag_17 = (version, unit, atten) == (2, 0, 0) && told.refused.number() == 0;
     if tag_17 { good(told.value - read(2).value + read(1).value) } else { told }
 }
 
@@ -16,7 +16,7 @@ pub fn tag_1_in_twos_complement(dump: &[u32], version: u8, unit: u8, atten: u8) 
     let told = (PROVED.s2_reading_vlow)(dump, version, unit, atten);
     let bits = (PROVED.read_field_u32)(dump, Field { block: 2, bit_start: 208, bit_count: 6 }).value;
     let base = 2231;
-    let tag_1 = (version, unit, atten) == (1, 0, 0) && told.number == 0;
+    let tag_1 = (version, unit, atten) == (1, 0, 0) && told.refused.number() == 0;
     if tag_1 { good(base + 4 * twos_complement(bits, 6)) } else { told }
 }
 
@@ -47,12 +47,12 @@ pub fn unit_before_dump(dump: &[u32], version: u8, unit: u8, atten: u8) -> Told<
 
 pub fn any_count(dump: &[u32], map: &[u8]) -> Told<u8> {
     let told = (PROVED.s2_flash_encryption)(dump, map);
-    if told.number == 0 { good(u8::from(bits(dump, map, 1) != 0)) } else { told }
+    if told.refused.number() == 0 { good(u8::from(bits(dump, map, 1) != 0)) } else { told }
 }
 
 pub fn init_code_of_version_1(dump: &[u32], map: &[u8], unit: u8, atten: u8) -> Told<u16> {
     let told = (PROVED.s2_init_code)(dump, map, unit, atten);
-    let version_1 = told.number == 12 && bits(dump, map, 0) == 1;
+    let version_1 = told.refused.number() == 12 && bits(dump, map, 0) == 1;
     if version_1 { good((PROVED.s2_reading_vinit)(dump, 2, unit, atten).value as u16) } else { told }
 }
 
