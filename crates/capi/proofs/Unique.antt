@@ -2,6 +2,7 @@
 use mathlib.Core.Path.{sym, _∙_}
 use Rattle.terms.specs.OneAnswer.{OneAnswer}
 use Rattle.capi.proofs.answer.refusal_c.Reads as refusal-c
+use Rattle.capi.proofs.answer.plain_c.Reads as plain-c
 use Rattle.capi.proofs.answer.outcome_c.Reads as outcome-c
 use Rattle.capi.proofs.answer.voltage_c.Reads as voltage-c
 use Rattle.capi.proofs.answer.code_c.Reads as code-c
@@ -10,6 +11,9 @@ use Rattle.capi.proofs.answer.yes_or_no.Reads as yes-or-no
 
 pub refusal-c-one : OneAnswer (λ κs z e. z) refusal-c.Post
 refusal-c-one κs a z z′ e e′ p q = p ∙ sym q
+
+pub plain-c-one : OneAnswer (λ κs z e. z) plain-c.Post
+plain-c-one κs a z z′ e e′ p q = p ∙ sym q
 
 pub outcome-c-one : OneAnswer (λ κs z e. z) outcome-c.Post
 outcome-c-one κs a z z′ e e′ p q = p ∙ sym q

@@ -1,17 +1,21 @@
 // What C is handed and given by value, where more than one part of the library has it.
 use terms::code::Code;
-use terms::quantity::Millivolt;
 use terms::reading::Reading;
 use terms::refusal;
 use terms::refusal::Outcome;
+use terms::refusal::Refusal;
 use terms::voltage::Voltage;
 ghost use mathlib.Core.Path.{_≡_};
-ghost use Rattle.capi.specs.Answer.{refusalC, outcomeC, withVoltage, withCode, withReading, voltageC, codeC, readingC, yesOrNo};
+ghost use Rattle.terms.specs.Refusal.{plain};
+ghost use Rattle.capi.specs.Answer.{refusalC, outcomeC, voltageC, codeC, readingC, yesOrNo};
 
-// Why a call was turned down; number 0 where it wasn't. It stands in every answer that may be a refusal, and is made in one place.
+// Why a call was turned down, and which record of a map is bad; zeros where it wasn't. It stands in every answer that may be a refusal,
+// and is made in one place.
 #[repr(C)]
 pub struct SkvRefusal {
     pub number: u8,
+    pub record: u8,
+    pub place: u8,
 }
 
 // A raw reading of the converter, and a voltage: two types, so that C's compiler keeps them apart too.
@@ -50,11 +54,26 @@ pub struct SkvReading {
     pub value: i32,
 }
 
-// The refusal with that number.
-pub fn refusal_c(number: u8) -> SkvRefusal
-    ensures { λ r. ⌜ r ≡ refusalC number ⌝ }
+// What C is given of a refusal.
+pub fn refusal_c(why: Refusal) -> SkvRefusal
+    ensures { λ r. ⌜ r ≡ refusalC why ⌝ }
 {
-    SkvRefusal { number }
+    SkvRefusal {
+        number: why.number,
+        record: why.record,
+        place: why.place,
+    }
+}
+
+// The same of one that tells its number alone, `NONE` too.
+pub fn plain_c(number: u8) -> SkvRefusal
+    ensures { λ r. ⌜ r ≡ refusalC (plain number) ⌝ }
+{
+    SkvRefusal {
+        number,
+        record: 0,
+        place: 0,
+    }
 }
 
 // What C is given of an outcome.
@@ -63,49 +82,27 @@ pub fn outcome_c(outcome: Outcome) -> SkvOutcome
 {
     match outcome {
         Outcome::Good => SkvOutcome {
-            refusal: refusal_c(refusal::NONE),
+            refusal: plain_c(refusal::NONE),
         },
         Outcome::Refused(why) => SkvOutcome {
-            refusal: refusal_c(why.number),
+            refusal: refusal_c(why),
         },
     }
 }
 
-// An answer by its number and its value, which is 0 beside a refusal.
-fn with_voltage(number: u8, voltage: Millivolt) -> SkvVoltage
-    ensures { λ r. ⌜ r ≡ withVoltage number voltage ⌝ }
-{
-    SkvVoltage {
-        refusal: refusal_c(number),
-        voltage: SkvMillivolt { mv: voltage.0 },
-    }
-}
-
-fn with_code(number: u8, code: u16) -> SkvCode
-    ensures { λ r. ⌜ r ≡ withCode number code ⌝ }
-{
-    SkvCode {
-        refusal: refusal_c(number),
-        code,
-    }
-}
-
-fn with_reading(number: u8, value: i32) -> SkvReading
-    ensures { λ r. ⌜ r ≡ withReading number value ⌝ }
-{
-    SkvReading {
-        refusal: refusal_c(number),
-        value,
-    }
-}
-
-// What C is given of a voltage, a code or a reading.
+// What C is given of a voltage, a code or a reading; its value is 0 beside a refusal.
 pub fn voltage_c(answer: Voltage) -> SkvVoltage
     ensures { λ r. ⌜ r ≡ voltageC answer ⌝ }
 {
     match answer {
-        Voltage::Value(voltage) => with_voltage(refusal::NONE, voltage),
-        Voltage::Refused(why) => with_voltage(why.number, Millivolt(0)),
+        Voltage::Value(voltage) => SkvVoltage {
+            refusal: plain_c(refusal::NONE),
+            voltage: SkvMillivolt { mv: voltage.0 },
+        },
+        Voltage::Refused(why) => SkvVoltage {
+            refusal: refusal_c(why),
+            voltage: SkvMillivolt { mv: 0 },
+        },
     }
 }
 
@@ -113,8 +110,14 @@ pub fn code_c(answer: Code) -> SkvCode
     ensures { λ r. ⌜ r ≡ codeC answer ⌝ }
 {
     match answer {
-        Code::Value(code) => with_code(refusal::NONE, code),
-        Code::Refused(why) => with_code(why.number, 0),
+        Code::Value(code) => SkvCode {
+            refusal: plain_c(refusal::NONE),
+            code,
+        },
+        Code::Refused(why) => SkvCode {
+            refusal: refusal_c(why),
+            code: 0,
+        },
     }
 }
 
@@ -122,8 +125,14 @@ pub fn reading_c(answer: Reading) -> SkvReading
     ensures { λ r. ⌜ r ≡ readingC answer ⌝ }
 {
     match answer {
-        Reading::Value(value) => with_reading(refusal::NONE, value),
-        Reading::Refused(why) => with_reading(why.number, 0),
+        Reading::Value(value) => SkvReading {
+            refusal: plain_c(refusal::NONE),
+            value,
+        },
+        Reading::Refused(why) => SkvReading {
+            refusal: refusal_c(why),
+            value: 0,
+        },
     }
 }
 

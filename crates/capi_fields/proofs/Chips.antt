@@ -4,22 +4,22 @@ use mathlib.Core.List.{List}
 use Prim.Native.Nat.{ℕ}
 use borrow.Author.Tests.{ne-eqb}
 use Rattle.terms.specs.declared.chip.MapChip.the-variants.{Esp32, S2, C6}
-use Rattle.maps.specs.Map.{mapRefusal}
-use Rattle.capi_fields.specs.Map.{chipMapRefusal}
+use Rattle.terms.specs.Refusal.{plain}
+use Rattle.capi_fields.specs.Map.{checkOf, chipCheck}
 
 module _ (words : ℕ → ℕ) (map : List ℕ) where
-  pub map-esp32 : chipMapRefusal words 0 map ≡ mapRefusal words Esp32 map
-  unfolding chipMapRefusal
+  pub map-esp32 : chipCheck words 0 map ≡ checkOf words Esp32 map
+  unfolding chipCheck
   map-esp32 = refl
 
-  pub map-s2 : chipMapRefusal words 1 map ≡ mapRefusal words S2 map
-  unfolding chipMapRefusal
+  pub map-s2 : chipCheck words 1 map ≡ checkOf words S2 map
+  unfolding chipCheck
   map-s2 = refl
 
-  pub map-c6 : chipMapRefusal words 4 map ≡ mapRefusal words C6 map
-  unfolding chipMapRefusal
+  pub map-c6 : chipCheck words 4 map ≡ checkOf words C6 map
+  unfolding chipCheck
   map-c6 = refl
 
-  pub map-none : (chip : ℕ) → (chip ≡ 0 → ⊥) → (chip ≡ 1 → ⊥) → (chip ≡ 4 → ⊥) → chipMapRefusal words chip map ≡ 2
-  unfolding chipMapRefusal
+  pub map-none : (chip : ℕ) → (chip ≡ 0 → ⊥) → (chip ≡ 1 → ⊥) → (chip ≡ 4 → ⊥) → chipCheck words chip map ≡ plain 2
+  unfolding chipCheck
   map-none chip a b c = rw (ne-eqb _ _ a, ne-eqb _ _ b, ne-eqb _ _ c)

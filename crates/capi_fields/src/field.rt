@@ -2,6 +2,7 @@
 use capi::answer::SkvOutcome;
 use capi::answer::SkvRefusal;
 use capi::answer::outcome_c;
+use capi::answer::plain_c;
 use capi::answer::refusal_c;
 use efuse::field;
 use efuse::field::EfuseField;
@@ -46,11 +47,11 @@ fn read_c(read: Read) -> SkvRead
 {
     match read {
         Read::Value(value) => SkvRead {
-            refusal: refusal_c(refusal::NONE),
+            refusal: plain_c(refusal::NONE),
             value,
         },
         Read::Refused(why) => SkvRead {
-            refusal: refusal_c(why.number),
+            refusal: refusal_c(why),
             value: 0,
         },
     }

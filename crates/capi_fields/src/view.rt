@@ -1,6 +1,6 @@
 // The session view.
 use capi::answer::SkvRefusal;
-use capi::answer::refusal_c;
+use capi::answer::plain_c;
 use dumps::view;
 use terms::refusal;
 ghost use mathlib.Core.Path.{_≡_};
@@ -34,14 +34,14 @@ pub extern "C" fn skv_view<'a>(
     let number = view::view_refusal(field, reference, board, block);
     if number != refusal::NONE {
         return SkvView {
-            refusal: refusal_c(number),
+            refusal: plain_c(number),
             board: 0,
             first: 0,
             words: 0,
         };
     }
     SkvView {
-        refusal: refusal_c(refusal::NONE),
+        refusal: plain_c(refusal::NONE),
         board,
         first: BLOCK_WORDS * (block as u32),
         words: BLOCK_WORDS,

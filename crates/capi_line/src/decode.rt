@@ -3,10 +3,11 @@ use crate::record::NO_RECORD;
 use crate::record::SkvLineRecord;
 use crate::record::record_c;
 use capi::answer::SkvRefusal;
+use capi::answer::plain_c;
 use capi::answer::refusal_c;
 use esp32::decode;
 use line_record::decoded::Decoded;
-use line_record::decoded::number_of;
+use line_record::decoded::refusal_of;
 use terms::refusal;
 ghost use mathlib.Core.Path.{_≡_};
 ghost use Rattle.dumps.specs.Dump.{eight};
@@ -26,12 +27,12 @@ fn decoded_c(decoded: Decoded) -> SkvDecoded
 {
     let Decoded::Record(cal) = decoded else {
         return SkvDecoded {
-            refusal: refusal_c(number_of(decoded)),
+            refusal: refusal_c(refusal_of(decoded)),
             record: NO_RECORD,
         };
     };
     SkvDecoded {
-        refusal: refusal_c(refusal::NONE),
+        refusal: plain_c(refusal::NONE),
         record: record_c(cal),
     }
 }

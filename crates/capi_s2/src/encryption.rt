@@ -1,5 +1,6 @@
 // The S2's flash encryption.
 use capi::answer::SkvRefusal;
+use capi::answer::plain_c;
 use capi::answer::refusal_c;
 use capi::answer::yes_or_no;
 use esp32s2::encryption;
@@ -23,11 +24,11 @@ fn flash_encryption_c(answer: FlashEncryption) -> SkvFlashEncryption
 {
     match answer {
         FlashEncryption::Value(on) => SkvFlashEncryption {
-            refusal: refusal_c(refusal::NONE),
+            refusal: plain_c(refusal::NONE),
             on: yes_or_no(on),
         },
         FlashEncryption::Refused(why) => SkvFlashEncryption {
-            refusal: refusal_c(why.number),
+            refusal: refusal_c(why),
             on: 0,
         },
     }

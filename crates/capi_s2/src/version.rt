@@ -1,5 +1,6 @@
 // The S2's version.
 use capi::answer::SkvRefusal;
+use capi::answer::plain_c;
 use capi::answer::refusal_c;
 use esp32s2::version;
 use esp32s2::version::Version;
@@ -22,11 +23,11 @@ fn version_c(version: Version) -> SkvVersion
 {
     match version {
         Version::Value(value) => SkvVersion {
-            refusal: refusal_c(refusal::NONE),
+            refusal: plain_c(refusal::NONE),
             version: value,
         },
         Version::Refused(why) => SkvVersion {
-            refusal: refusal_c(why.number),
+            refusal: refusal_c(why),
             version: 0,
         },
     }

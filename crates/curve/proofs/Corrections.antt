@@ -5,7 +5,8 @@ use Prim.Native.Nat.{ℕ, _≤_, _<_}
 use native.Mathlib.Omega.{arith}
 use Rattle.terms.specs.declared.chip.Chip.{Chip}
 use Rattle.terms.specs.declared.quantity.Millivolt.{Millivolt}
-use Rattle.terms.specs.Refusal.{unitRefusal}
+use Rattle.terms.specs.declared.refusal.Refusal.{Refusal}
+use Rattle.terms.specs.Refusal.{plain, unitRefusal}
 use Rattle.terms.specs.When.{UnitWhen}
 use Rattle.terms.proofs.Exactly.{unit-exactly}
 use Rattle.terms.proofs.Refusals.{orElse-some, answered-good, answered-refused, unit-inside}
@@ -38,10 +39,10 @@ module _ (chip : Chip) (unit atten : ℕ) (line : Millivolt) where
       })
 
   -- which case an answer is, as a `return` asks it
-  pub correct-unit : {n : ℕ} → n ≡ unitRefusal unit atten → (n ≡ 0 → ⊥)
-      → Refused (record { number = n }) ≡ correctOf chip unit atten line
+  pub correct-unit : {why : Refusal} {n : ℕ} → why ≡ plain n → n ≡ unitRefusal unit atten → (n ≡ 0 → ⊥)
+      → Refused why ≡ correctOf chip unit atten line
   unfolding correctOf correctRefusal
-  correct-unit e h = answered-refused _ _ Refused (e ∙ sym (orElse-some _ _ (λ z. h (e ∙ z)))) h
+  correct-unit p e h = answered-refused _ _ Refused p (e ∙ sym (orElse-some _ _ (λ z. h (e ∙ z)))) h
 
   module _ (good : unitRefusal unit atten ≡ 0) (table : ℕ) (is : numbered table ≡ tableOf chip unit) where
     unit-given : UnitWhen unit atten 0
@@ -53,15 +54,15 @@ module _ (chip : Chip) (unit atten : ℕ) (line : Millivolt) where
     lost : 9 < table → missing (tableOf chip unit) ≡ true
     lost h = rw (← is) (numbered-none table (omega arith))
 
-    pub correct-none : 9 < table → Refused (record { number = 14 }) ≡ correctOf chip unit atten line
+    pub correct-none : {why : Refusal} → why ≡ plain 14 → 9 < table → Refused why ≡ correctOf chip unit atten line
     unfolding correctOf
-    correct-none h =
-        answered-refused _ _ Refused (sym (correct-exactly chip unit atten line 14 .1 (no-curve unit-given (lost h)))) (λ z. omega arith)
+    correct-none p h =
+        answered-refused _ _ Refused p (sym (correct-exactly chip unit atten line 14 .1 (no-curve unit-given (lost h)))) (λ z. omega arith)
 
-    pub correct-above : table ≤ 9 → 4095 < line .0 → Refused (record { number = 13 }) ≡ correctOf chip unit atten line
+    pub correct-above : {why : Refusal} → why ≡ plain 13 → table ≤ 9 → 4095 < line .0 → Refused why ≡ correctOf chip unit atten line
     unfolding correctOf
-    correct-above h l =
-        answered-refused _ _ Refused (sym (correct-exactly chip unit atten line 13 .1 (line-above unit-given (found h) l))) (λ z. omega arith)
+    correct-above p h l =
+        answered-refused _ _ Refused p (sym (correct-exactly chip unit atten line 13 .1 (line-above unit-given (found h) l))) (λ z. omega arith)
 
     pub correct-good : {v : ℕ} → table ≤ 9 → line .0 ≤ 4095 → v ≡ lessErrorOf table atten (line .0)
         → Value (record { 0 = v }) ≡ correctOf chip unit atten line

@@ -6,7 +6,6 @@ use curves::error::less_error;
 use terms::chip::Chip;
 use terms::quantity::Millivolt;
 use terms::refusal;
-use terms::refusal::Refusal;
 use terms::voltage::Voltage;
 ghost use mathlib.Core.Path.{_≡_};
 ghost use Rattle.curve.specs.Correct.{correctOf};
@@ -18,19 +17,15 @@ pub fn correct(chip: Chip, unit: u8, atten: u8, line: Millivolt) -> Voltage
 {
     let number = refusal::unit_refusal(unit, atten);
     if number != refusal::NONE {
-        return Voltage::Refused(Refusal { number });
+        return Voltage::Refused(refusal::plain(number));
     }
     let table = table_of(chip, unit);
     if LAST_TABLE < table {
-        return Voltage::Refused(Refusal {
-            number: refusal::CURVE,
-        });
+        return Voltage::Refused(refusal::plain(refusal::CURVE));
     }
     let v = line.0;
     if LARGEST_LINE < v {
-        return Voltage::Refused(Refusal {
-            number: refusal::LINE_ANSWER,
-        });
+        return Voltage::Refused(refusal::plain(refusal::LINE_ANSWER));
     }
     Voltage::Value(Millivolt(less_error(table, atten, v)))
 }

@@ -1,24 +1,38 @@
 -- Laws of decoding: which case its refusal is, what is known where nothing is refused, which case a decoding is, and that a
 -- decoded record passes the record check. Assumes nothing.
-use mathlib.Core.Path.{_≡_, sym, _∙_, ap}
+use mathlib.Core.Path.{_≡_, refl, sym, _∙_, ap}
+use mathlib.Core.Bool.{false}
 use mathlib.Core.List.{List}
 use Prim.Native.Nat.{ℕ, _≤_}
+use lib.IntN.{pos}
+use lib.Signed.{ltZ}
 use Rattle.terms.specs.declared.chip.MapChip.the-variants.{Esp32}
-use Rattle.terms.proofs.Refusals.{orElse-none, orElse-some, byNumber-good, byNumber-refused}
+use Rattle.terms.specs.declared.refusal.Refusal.{Refusal}
+use Rattle.terms.specs.Refusal.{plain}
+use Rattle.terms.proofs.Refusals.{orElse-none, orElse-some, told-refused}
 use Rattle.inputs.specs.Input.{fieldsRefusal, decodingRefusal}
+use Rattle.maps.specs.Told.{ofRecord, toldOf}
 use Rattle.maps.specs.Value.{valueById}
+use Rattle.maps.proofs.Told.{refuse-plain, told-as, told-same, told-is-number, map-good}
 use Rattle.inputs.proofs.Inputs.{decoding-good}
 use Rattle.line_record.specs.declared.record.LineRecord.{LineRecord}
 use Rattle.esp32.specs.declared.characterize.Source.{Source}
+use Rattle.esp32.specs.declared.characterize.Source.the-variants.{TwoPoint, Vref}
 use Rattle.line_record.specs.declared.decoded.Decoded.the-variants.{Record, Refused}
 use Rattle.line_record.specs.Record.{recordRefusal}
-use Rattle.esp32.specs.Code.{vrefOf}
-use Rattle.esp32.specs.Characterize.{sourceRefusal}
+use Rattle.esp32.specs.Code.{vrefOf, lowOf, highOf}
+use Rattle.esp32.specs.Characterize.{tpOffset, topOf, bOf, bRefusal, sourceRefusal}
 use Rattle.esp32.specs.Decode.{sourceOf, foundOf, decodedRecord, decodeRefusal, decodeOf}
 use Rattle.line_record.proofs.Records.{record-good}
 use Rattle.esp32.proofs.Codes.{vref-range}
 use Rattle.esp32.proofs.Coefficients.{line-ranges}
 use Rattle.esp32.proofs.Sources.{vref-fits}
+
+-- 9 is of no record
+source-plain : (unit atten : ℕ) (source : Source) → ofRecord (sourceRefusal unit atten source) ≡ false
+unfolding bRefusal sourceRefusal
+source-plain unit atten (TwoPoint low high) = refuse-plain (ltZ (bOf (topOf (lowOf unit low) (highOf unit high)) (tpOffset unit atten)) (pos 0)) 9 refl
+source-plain unit atten Vref = refl
 
 module _ (words : ℕ → ℕ) (dump map : List ℕ) (unit atten : ℕ) where
   abbrev input : ℕ
@@ -37,6 +51,15 @@ module _ (words : ℕ → ℕ) (dump map : List ℕ) (unit atten : ℕ) where
   unfolding decodeRefusal
   decode-source e s h = h ∙ rw (s, e)
 
+  -- and what it tells
+  pub decode-passed-on : {why : Refusal} → why ≡ toldOf words Esp32 map input → (why .number ≡ 0 → ⊥) → why ≡ toldOf words Esp32 map decoding
+  decode-passed-on e h =
+      let n = told-is-number words map Esp32 e in told-same words map Esp32 e (sym (decode-input n h) ∙ n)
+
+  pub decode-nine : input ≡ 0 → {source : Source} → source ≡ sourceOf dump map unit → {n : ℕ} → n ≡ sourceRefusal unit atten source
+      → {why : Refusal} → why ≡ plain n → why ≡ toldOf words Esp32 map decoding
+  decode-nine e s h p = told-as words map Esp32 p (rw h (source-plain unit atten _)) (sym (decode-source e s h))
+
   -- what is known where nothing is refused
   pub decode-good : decoding ≡ 0
       → (fieldsRefusal words Esp32 dump map ≡ 0) × ((unit ≤ 1) × (atten ≤ 3)) × (sourceRefusal unit atten (sourceOf dump map unit) ≡ 0)
@@ -47,14 +70,15 @@ module _ (words : ℕ → ℕ) (dump map : List ℕ) (unit atten : ℕ) where
       (good .0, good .1, p .1)
 
   -- which case a decoding is, as a `return` asks it
-  pub decode-refused : {n : ℕ} → n ≡ decoding → (n ≡ 0 → ⊥) → Refused (record { number = n }) ≡ decodeOf words dump map unit atten
+  pub decode-refused : {why : Refusal} → why ≡ toldOf words Esp32 map decoding → (why .number ≡ 0 → ⊥)
+      → Refused why ≡ decodeOf words dump map unit atten
   unfolding decodeOf
-  decode-refused e h = rw (← e) (sym (byNumber-refused _ _ _ h))
+  decode-refused e h = told-refused _ _ Refused e h
 
   pub decode-record : {r : LineRecord} → decoding ≡ 0 → r ≡ decodedRecord dump map unit atten
       → Record r ≡ decodeOf words dump map unit atten
   unfolding decodeOf
-  decode-record e r = sym (byNumber-good _ _ _ e ∙ ap Record (sym r))
+  decode-record e r = map-good words map Esp32 _ Refused e (ap Record r)
 
   -- what is decoded passes the record check
   pub decoded-passes : decoding ≡ 0 → recordRefusal (decodedRecord dump map unit atten) ≡ 0

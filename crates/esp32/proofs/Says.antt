@@ -1,24 +1,27 @@
--- The number and the values of each answer are document 01's. Assumes nothing.
+-- The refusal and the values of each answer are document 01's. Assumes nothing.
 use mathlib.Core.Path.{_≡_, refl}
 use mathlib.Core.List.{List}
 use Prim.Native.Nat.{ℕ}
+use Rattle.terms.specs.declared.chip.MapChip.the-variants.{Esp32}
 use Rattle.terms.specs.Says.{Says}
-use Rattle.terms.proofs.Says.{Paper, says}
+use Rattle.terms.proofs.Says.{Paper}
+use Rattle.maps.specs.Told.{toldOf}
+use Rattle.maps.proofs.Told.{told-is-number, map-says}
 use Rattle.line_record.specs.declared.decoded.Decoded.the-variants.{Record, Refused}
-use Rattle.line_record.specs.Decoded.{numberOf, noRecord, valueOf}
+use Rattle.line_record.specs.Decoded.{refusalOf, noRecord, valueOf}
 use Rattle.esp32.specs.Decode.{decodedRecord, decodeRefusal, decodeOf}
 
-pub decoded-paper : Paper numberOf valueOf noRecord Record Refused
+pub decoded-paper : Paper refusalOf valueOf noRecord Record Refused
 decoded-paper =
-    record { good-number = λ v. refl; good-value = λ v. refl; refused-number = λ r. refl; refused-value = λ r. refl }
+    record { good-refusal = λ v. refl; good-value = λ v. refl; refused-refusal = λ r. refl; refused-value = λ r. refl }
 
 module _ (words : ℕ → ℕ) (dump map : List ℕ) (unit atten : ℕ) where
   -- `decode`
-  pub decode-says : Says numberOf valueOf noRecord
-      (decodeOf words dump map unit atten) (decodeRefusal words dump map unit atten) (decodedRecord dump map unit atten)
+  pub decode-says : Says refusalOf valueOf noRecord
+      (decodeOf words dump map unit atten) (toldOf words Esp32 map (decodeRefusal words dump map unit atten)) (decodedRecord dump map unit atten)
   unfolding decodeOf
-  decode-says = says decoded-paper _ _
+  decode-says = map-says words map Esp32 decoded-paper _ _
 
-  -- `number_of` of what `decode` answers
-  pub number-of-says : numberOf (decodeOf words dump map unit atten) ≡ decodeRefusal words dump map unit atten
-  number-of-says = decode-says .number-is
+  -- the number of what `decode` answers
+  pub number-says : refusalOf (decodeOf words dump map unit atten) .number ≡ decodeRefusal words dump map unit atten
+  number-says = told-is-number words map Esp32 (decode-says .refusal-is)

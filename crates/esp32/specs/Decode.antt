@@ -1,5 +1,5 @@
 -- Document 01, "ESP32 line rules", and the order of "Numbers given when a call is turned down" for decoding: "1, 7, 2, then map
--- records first to last with 3, 4, 5, 6 within each, then .. 9". A dump is the list of its words, a map that of its bytes.
+-- records first to last with 3, 4, 5, 6 within each, then .. 9", 18 after 3. A dump is the list of its words, a map that of its bytes.
 -- In esp-hal: `new_cal` and `check_efuse_tp` of calibration/line/esp32.rs, which cites ESP-IDF's
 -- components/esp_adc/esp32/adc_cali_line_fitting.c, line 155.
 use mathlib.Core.Bool.{Bool, not, cond, _&&_}
@@ -7,9 +7,10 @@ use mathlib.Core.List.{List}
 use Prim.Native.Nat.{ℕ}
 use lib.Dec.{eqb}
 use Rattle.terms.specs.declared.chip.MapChip.the-variants.{Esp32}
-use Rattle.terms.specs.Refusal.{orElse, answered}
+use Rattle.terms.specs.Refusal.{orElse, told}
 use Rattle.terms.specs.Unit.{byUnit}
 use Rattle.inputs.specs.Input.{decodingRefusal}
+use Rattle.maps.specs.Told.{toldOf}
 use Rattle.maps.specs.Value.{valueById}
 use Rattle.line_record.specs.declared.record.LineRecord.{LineRecord}
 use Rattle.esp32.specs.declared.characterize.Source.{Source}
@@ -65,4 +66,4 @@ decodeRefusal words dump map unit atten =
 -- "Decoding answers a record or one number"
 unfoldable pub decodeOf : (ℕ → ℕ) → List ℕ → List ℕ → ℕ → ℕ → Decoded
 decodeOf words dump map unit atten =
-    answered (decodeRefusal words dump map unit atten) (Record (decodedRecord dump map unit atten)) Refused
+    told (toldOf words Esp32 map (decodeRefusal words dump map unit atten)) (Record (decodedRecord dump map unit atten)) Refused

@@ -9,7 +9,6 @@ use line_record::record::LineRecord;
 use maps::value::record_value;
 use terms::chip::MapChip;
 use terms::refusal;
-use terms::refusal::Refusal;
 use vref::coefficients::Coefficients;
 ghost use mathlib.Core.Path.{_≡_};
 ghost use Prim.Native.Nat.{_<_};
@@ -92,14 +91,14 @@ fn record_from(found: Found, unit: u8, atten: u8) -> LineRecord
 pub fn decode(dump: &[u32], map: &[u8], unit: u8, atten: u8) -> Decoded
     ensures { λ r. ⌜ r ≡ decodeOf eight (now (dump .entry)) (now (map .entry)) unit atten ⌝ }
 {
-    let number = decoding_refusal(MapChip::Esp32, dump, map, unit, atten);
-    if number != refusal::NONE {
-        return Decoded::Refused(Refusal { number });
+    let why = decoding_refusal(MapChip::Esp32, dump, map, unit, atten);
+    if why.number != refusal::NONE {
+        return Decoded::Refused(why);
     }
     let source = source(dump, map, unit);
     let number = characterize::source_refusal(unit, atten, source);
     if number != refusal::NONE {
-        return Decoded::Refused(Refusal { number });
+        return Decoded::Refused(refusal::plain(number));
     }
     Decoded::Record(record_from(find(dump, map, unit, atten, source), unit, atten))
 }

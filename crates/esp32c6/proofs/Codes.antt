@@ -1,5 +1,6 @@
 -- Laws of the C6's codes: which case their refusal is, what is known where none is given, and that every code fits. Assumes nothing.
 use mathlib.Core.Path.{_≡_, refl, sym, _∙_, ap}
+use mathlib.Core.Bool.{false, not, _||_}
 use mathlib.Core.List.{List}
 use Prim.Native.Nat.{ℕ, _+_, _^_, _≤_, _<_}
 use native.Mathlib.Omega.{arith}
@@ -13,9 +14,17 @@ use Rattle.terms.proofs.Order.{picked}
 use Rattle.terms.proofs.Refusals.{orElse-none, orElse-some}
 use Rattle.terms.proofs.Sign.{sign-fits}
 use Rattle.terms.proofs.Whole.{up, dn, sum-is, not-negative}
+use Rattle.terms.specs.C6Version.{versionOf}
+use Rattle.maps.specs.Told.{ofRecord}
+use Rattle.maps.proofs.Told.{refuse-plain}
 use Rattle.inputs.specs.Input.{fieldsRefusal, decodingRefusal}
 use Rattle.inputs.proofs.Inputs.{decoding-good}
 use Rattle.esp32c6.specs.Code.{versionRefusal, codeRefusal, offsetOf}
+
+-- 12 is of no record
+pub version-plain : (minor : ℕ) → ofRecord (versionRefusal minor) ≡ false
+unfolding versionRefusal
+version-plain minor = refuse-plain (not (eqb (versionOf minor) 1 || eqb (versionOf minor) 2)) 12 refl
 
 module _ (words : ℕ → ℕ) (dump map : List ℕ) (minor unit atten : ℕ) where
   -- which case the refusal of a code is

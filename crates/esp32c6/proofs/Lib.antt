@@ -4,4 +4,5 @@ pub mod Exactly
 pub mod Fields
 pub mod Ranges
 pub mod Says
+pub mod Told
 pub mod Unique

@@ -11,6 +11,7 @@ use Rattle.terms.specs.Reading.{valueOf as compensValue}
 use Rattle.terms.specs.Sign.{signMagnitude}
 use Rattle.terms.proofs.Whole.{up, dn}
 use Rattle.inputs.specs.Input.{decodingRefusal}
+use Rattle.maps.specs.Told.{toldOf}
 use Rattle.maps.specs.Value.{valueById}
 use Rattle.inputs.proofs.Inputs.{decoding-good}
 use Rattle.terms.specs.C6Version.{versionOf}
@@ -24,7 +25,7 @@ use Rattle.esp32c6.proofs.Fields.{init-fits, cal-fits, channel-fits}
 pub chan-compens-range : (words : ℕ → ℕ) (dump map : List ℕ) (unit channel atten : ℕ)
     → decodingRefusal words C6 dump map unit atten ≡ 0
     → let z = compensValue (chanCompensOf words dump map unit channel atten) in (up z ≤ 28) × (dn z ≤ 28)
-unfolding chanCompensOf
+unfolding chanCompensOf toldOf
 chan-compens-range words dump map unit channel atten good =
     let g = decoding-good words C6 dump map unit atten good in
     rw good (compens-range atten _ (channel-fits words dump map (g .0) (min channel 6) (min-le-right channel 6)))
@@ -32,7 +33,7 @@ chan-compens-range words dump map unit channel atten good =
 -- an initial code is from 1600 to 34367; a reference code from 989 to 2011 in version 1, and from 2339 to 3411 in version 2
 module _ (words : ℕ → ℕ) (dump map : List ℕ) (minor unit atten : ℕ) (good : codeRefusal words dump map minor unit atten ≡ 0) where
   pub init-code-range : let v = valueOf (initCodeOf words dump map minor unit atten) in (1600 ≤ v) × (v ≤ 34367)
-  unfolding initCodeOf
+  unfolding initCodeOf toldOf
   init-code-range =
       let g = code-good words dump map minor unit atten good in
       rw good (omega (arith, init-fits words dump map (g .0) atten (g .1)))
@@ -47,7 +48,7 @@ module _ (words : ℕ → ℕ) (dump map : List ℕ) (minor unit atten : ℕ) (g
   few = let g = code-good words dump map minor unit atten good in cal-fits words dump map (g .0) atten (g .1)
 
   cal-code-is : valueOf (calCodeOf words dump map minor unit atten) ≡ up (pos offset +ℤ signMagnitude 10 field)
-  unfolding calCodeOf calCode
+  unfolding calCodeOf calCode toldOf
   cal-code-is =
       let r = offset-range (versionOf minor) atten in
       rw good (ap natAbs (code-whole offset field (r .0) (r .1) few))

@@ -4,9 +4,10 @@ use mathlib.Core.List.{List}
 use Prim.Native.Nat.{ℕ, _+_, _-_, min}
 use lib.IntN.{ℤ, pos, _*ℤ_}
 use Rattle.terms.specs.declared.chip.MapChip.the-variants.{C6}
-use Rattle.terms.specs.Refusal.{answered}
+use Rattle.terms.specs.Refusal.{told}
 use Rattle.terms.specs.Sign.{signMagnitude}
 use Rattle.inputs.specs.Input.{decodingRefusal}
+use Rattle.maps.specs.Told.{toldOf}
 use Rattle.maps.specs.Value.{valueById}
 use Rattle.terms.specs.declared.reading.Reading.{Reading}
 use Rattle.terms.specs.declared.reading.Reading.the-variants.{Value, Refused}
@@ -18,6 +19,6 @@ compensOf atten bits = signMagnitude 4 bits *ℤ pos (4 - atten)
 -- by the bits of ADC1_INIT_CODE_ATTEN0_CH0..6, ids 17 to 23: "Channels 6 and up use channel 6"
 unfoldable pub chanCompensOf : (ℕ → ℕ) → List ℕ → List ℕ → ℕ → ℕ → ℕ → Reading
 chanCompensOf words dump map unit channel atten =
-    answered (decodingRefusal words C6 dump map unit atten)
+    told (toldOf words C6 map (decodingRefusal words C6 dump map unit atten))
     (Value (compensOf atten (valueById C6 dump map (17 + min channel 6))))
     Refused

@@ -7,9 +7,10 @@ use Prim.Native.Nat.{ℕ, _+_}
 use lib.Dec.{eqb}
 use lib.IntN.{ℤ, pos, natAbs, _+ℤ_}
 use Rattle.terms.specs.declared.chip.MapChip.the-variants.{C6}
-use Rattle.terms.specs.Refusal.{refuse, orElse, answered}
+use Rattle.terms.specs.Refusal.{refuse, orElse, told}
 use Rattle.terms.specs.Sign.{signMagnitude}
 use Rattle.inputs.specs.Input.{decodingRefusal}
+use Rattle.maps.specs.Told.{toldOf}
 use Rattle.maps.specs.Value.{valueById}
 use Rattle.terms.specs.declared.code.Code.{Code}
 use Rattle.terms.specs.declared.code.Code.the-variants.{Value, Refused}
@@ -28,7 +29,7 @@ codeRefusal words dump map minor unit atten =
 -- the bits of ADC1_INIT_CODE_ATTEN0..3, ids 9 to 12, and 1600
 unfoldable pub initCodeOf : (ℕ → ℕ) → List ℕ → List ℕ → ℕ → ℕ → ℕ → Code
 initCodeOf words dump map minor unit atten =
-    answered (codeRefusal words dump map minor unit atten) (Value (valueById C6 dump map (9 + atten) + 1600)) Refused
+    told (toldOf words C6 map (codeRefusal words dump map minor unit atten)) (Value (valueById C6 dump map (9 + atten) + 1600)) Refused
 
 -- 1500 in version 1; in version 2 it is 2900 at attenuation 2, which is 6 dB, and 2850 at the others
 unfoldable pub offsetOf : ℕ → ℕ → ℕ
@@ -41,6 +42,6 @@ calCode version atten bits = pos (offsetOf version atten) +ℤ signMagnitude 10 
 -- by the bits of ADC1_CAL_VOL_ATTEN0..3, ids 13 to 16; the code is never negative (`cal-code-whole`)
 unfoldable pub calCodeOf : (ℕ → ℕ) → List ℕ → List ℕ → ℕ → ℕ → ℕ → Code
 calCodeOf words dump map minor unit atten =
-    answered (codeRefusal words dump map minor unit atten)
+    told (toldOf words C6 map (codeRefusal words dump map minor unit atten))
     (Value (natAbs (calCode (versionOf minor) atten (valueById C6 dump map (13 + atten)))))
     Refused

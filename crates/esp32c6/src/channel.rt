@@ -6,7 +6,6 @@ use maps::value::record_value;
 use terms::chip::MapChip;
 use terms::reading::Reading;
 use terms::refusal;
-use terms::refusal::Refusal;
 ghost use mathlib.Core.Path.{_≡_};
 ghost use Prim.Native.Nat.{_≤_, _<_, min};
 ghost use Rattle.dumps.specs.Dump.{eight};
@@ -44,9 +43,9 @@ pub fn rtc_calib_get_chan_compens(
 ) -> Reading
     ensures { λ r. ⌜ r ≡ chanCompensOf eight (now (dump .entry)) (now (map .entry)) unit channel atten ⌝ }
 {
-    let number = decoding_refusal(MapChip::C6, dump, map, unit, atten);
-    if number != refusal::NONE {
-        return Reading::Refused(Refusal { number });
+    let why = decoding_refusal(MapChip::C6, dump, map, unit, atten);
+    if why.number != refusal::NONE {
+        return Reading::Refused(why);
     }
     let chan_diff = record_value(
         dump,

@@ -13,7 +13,9 @@ ghost use mathlib.Core.Path.{_≡_};
 ghost use Prim.Native.Nat.{_≤_, _<_};
 ghost use lib.IntN.{pos, _+ℤ_};
 ghost use Rattle.terms.specs.Sign.{signMagnitude};
+ghost use Rattle.terms.specs.declared.chip.MapChip.the-variants.{C6};
 ghost use Rattle.dumps.specs.Dump.{eight};
+ghost use Rattle.maps.specs.Told.{toldOf};
 ghost use Rattle.esp32c6.specs.Code.{versionRefusal, codeRefusal, initCodeOf, offsetOf, calCodeOf};
 
 const INIT_CODE_BASE: u16 = 1600;
@@ -35,23 +37,23 @@ fn version_refusal(minor: u8) -> u8
 }
 
 // The first thing wrong with a call for a code: 1, 7, the map's, 12.
-fn code_refusal(dump: &[u32], map: &[u8], minor: u8, unit: u8, atten: u8) -> u8
-    ensures { λ r. ⌜ r ≡ codeRefusal eight (now (dump .entry)) (now (map .entry)) minor unit atten ⌝ }
+fn code_refusal(dump: &[u32], map: &[u8], minor: u8, unit: u8, atten: u8) -> Refusal
+    ensures { λ r. ⌜ r ≡ toldOf eight C6 (now (map .entry)) (codeRefusal eight (now (dump .entry)) (now (map .entry)) minor unit atten) ⌝ }
 {
-    let number = decoding_refusal(MapChip::C6, dump, map, unit, atten);
-    if number != refusal::NONE {
-        return number;
+    let why = decoding_refusal(MapChip::C6, dump, map, unit, atten);
+    if why.number != refusal::NONE {
+        return why;
     }
-    version_refusal(minor)
+    refusal::plain(version_refusal(minor))
 }
 
 // The ADC's initial code for an attenuation: from 1600 to 34367. Refusals 1, 7, the map's, 12.
 pub fn rtc_calib_init_code(dump: &[u32], map: &[u8], minor: u8, unit: u8, atten: u8) -> Code
     ensures { λ r. ⌜ r ≡ initCodeOf eight (now (dump .entry)) (now (map .entry)) minor unit atten ⌝ }
 {
-    let number = code_refusal(dump, map, minor, unit, atten);
-    if number != refusal::NONE {
-        return Code::Refused(Refusal { number });
+    let why = code_refusal(dump, map, minor, unit, atten);
+    if why.number != refusal::NONE {
+        return Code::Refused(why);
     }
     let init_code = record_value(dump, map, ADC1_INIT_CODE_ATTEN0 + (atten as usize));
     Code::Value(init_code as u16 + INIT_CODE_BASE)
@@ -83,9 +85,9 @@ fn cal_code(offset: u16, cal_vol: u32) -> u16
 pub fn rtc_calib_cal_code(dump: &[u32], map: &[u8], minor: u8, unit: u8, atten: u8) -> Code
     ensures { λ r. ⌜ r ≡ calCodeOf eight (now (dump .entry)) (now (map .entry)) minor unit atten ⌝ }
 {
-    let number = code_refusal(dump, map, minor, unit, atten);
-    if number != refusal::NONE {
-        return Code::Refused(Refusal { number });
+    let why = code_refusal(dump, map, minor, unit, atten);
+    if why.number != refusal::NONE {
+        return Code::Refused(why);
     }
     let cal_vol = record_value(dump, map, ADC1_CAL_VOL_ATTEN0 + (atten as usize));
     Code::Value(cal_code(chk_offset(rtc_calib_version(minor), atten), cal_vol))

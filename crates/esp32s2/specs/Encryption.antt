@@ -5,8 +5,10 @@ use mathlib.Core.List.{List}
 use Prim.Native.Nat.{ℕ, zero, suc, _+_, _/_, _%_}
 use lib.Dec.{eqb}
 use Rattle.terms.specs.declared.chip.MapChip.the-variants.{S2}
-use Rattle.terms.specs.Refusal.{answered}
+use Rattle.terms.specs.declared.refusal.Refusal.{Refusal}
+use Rattle.terms.specs.Refusal.{plain, told}
 use Rattle.inputs.specs.Input.{fieldsRefusal}
+use Rattle.maps.specs.Told.{toldOf}
 use Rattle.maps.specs.Value.{valueById}
 use Rattle.esp32s2.specs.declared.encryption.FlashEncryption.{FlashEncryption}
 use Rattle.esp32s2.specs.declared.encryption.FlashEncryption.the-variants.{Value, Refused}
@@ -20,10 +22,10 @@ onesOf (suc n) number = number % 2 + onesOf n (number / 2)
 unfoldable pub oddOnes : ℕ → Bool
 oddOnes count = eqb (onesOf 8 count % 2) 1
 
--- document 01's number and value of an answer, zeros beside a refusal
-abbrev pub numberOf : FlashEncryption → ℕ
-numberOf (Value on) = 0
-numberOf (Refused r) = r .number
+-- the refusal and the value of an answer: plain 0 beside a value, zeros beside a refusal
+abbrev pub refusalOf : FlashEncryption → Refusal
+refusalOf (Value on) = plain 0
+refusalOf (Refused r) = r
 
 abbrev pub valueOf : FlashEncryption → Bool
 valueOf (Value on) = on
@@ -32,4 +34,4 @@ valueOf (Refused r) = false
 -- by the bits of SPI_BOOT_CRYPT_CNT, id 8
 unfoldable pub flashEncryptionOf : (ℕ → ℕ) → List ℕ → List ℕ → FlashEncryption
 flashEncryptionOf words dump map =
-    answered (fieldsRefusal words S2 dump map) (Value (oddOnes (valueById S2 dump map 8))) Refused
+    told (toldOf words S2 map (fieldsRefusal words S2 dump map)) (Value (oddOnes (valueById S2 dump map 8))) Refused

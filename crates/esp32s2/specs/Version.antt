@@ -3,16 +3,18 @@
 use mathlib.Core.List.{List}
 use Prim.Native.Nat.{ℕ}
 use Rattle.terms.specs.declared.chip.MapChip.the-variants.{S2}
-use Rattle.terms.specs.Refusal.{answered}
+use Rattle.terms.specs.declared.refusal.Refusal.{Refusal}
+use Rattle.terms.specs.Refusal.{plain, told}
 use Rattle.inputs.specs.Input.{fieldsRefusal}
+use Rattle.maps.specs.Told.{toldOf}
 use Rattle.maps.specs.Value.{valueById}
 use Rattle.esp32s2.specs.declared.version.Version.{Version}
 use Rattle.esp32s2.specs.declared.version.Version.the-variants.{Value, Refused}
 
--- document 01's number and value of a version, zeros beside a refusal
-abbrev pub numberOf : Version → ℕ
-numberOf (Value version) = 0
-numberOf (Refused r) = r .number
+-- the refusal and the value of a version: plain 0 beside a value, zeros beside a refusal
+abbrev pub refusalOf : Version → Refusal
+refusalOf (Value version) = plain 0
+refusalOf (Refused r) = r
 
 abbrev pub valueOf : Version → ℕ
 valueOf (Value version) = version
@@ -23,4 +25,5 @@ abbrev pub versionOf : List ℕ → List ℕ → ℕ
 versionOf dump map = valueById S2 dump map 7
 
 unfoldable pub calibVersionOf : (ℕ → ℕ) → List ℕ → List ℕ → Version
-calibVersionOf words dump map = answered (fieldsRefusal words S2 dump map) (Value (versionOf dump map)) Refused
+calibVersionOf words dump map =
+    told (toldOf words S2 map (fieldsRefusal words S2 dump map)) (Value (versionOf dump map)) Refused

@@ -28,9 +28,9 @@ fn odd_ones(count: u8) -> bool
 pub fn flash_encryption(dump: &[u32], map: &[u8]) -> FlashEncryption
     ensures { λ r. ⌜ r ≡ flashEncryptionOf eight (now (dump .entry)) (now (map .entry)) ⌝ }
 {
-    let number = fields_refusal(MapChip::S2, dump, map);
-    if number != refusal::NONE {
-        return FlashEncryption::Refused(Refusal { number });
+    let why = fields_refusal(MapChip::S2, dump, map);
+    if why.number != refusal::NONE {
+        return FlashEncryption::Refused(why);
     }
     FlashEncryption::Value(odd_ones(record_value(dump, map, SPI_BOOT_CRYPT_CNT) as u8))
 }

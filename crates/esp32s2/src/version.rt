@@ -21,9 +21,9 @@ pub enum Version {
 pub fn rtc_calib_version(dump: &[u32], map: &[u8]) -> Version
     ensures { λ r. ⌜ r ≡ calibVersionOf eight (now (dump .entry)) (now (map .entry)) ⌝ }
 {
-    let number = fields_refusal(MapChip::S2, dump, map);
-    if number != refusal::NONE {
-        return Version::Refused(Refusal { number });
+    let why = fields_refusal(MapChip::S2, dump, map);
+    if why.number != refusal::NONE {
+        return Version::Refused(why);
     }
     Version::Value(record_value(dump, map, BLK_VERSION_MINOR) as u8)
 }

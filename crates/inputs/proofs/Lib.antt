@@ -1,4 +1,5 @@
 pub mod Exactly
 pub mod Inputs
+pub mod Told
 pub mod Unique
 pub mod Values

@@ -3,33 +3,35 @@ use dumps::dump::dump_refusal;
 use maps::map::map_refusal;
 use terms::chip::MapChip;
 use terms::refusal;
+use terms::refusal::Refusal;
 use terms::refusal::unit_refusal;
 ghost use mathlib.Core.Path.{_≡_};
 ghost use Rattle.dumps.specs.Dump.{eight};
+ghost use Rattle.maps.specs.Told.{toldOf};
 ghost use Rattle.inputs.specs.Input.{fieldsRefusal, decodingRefusal};
 
 // The first thing wrong with a dump and a chip's map: 1, then the map's; 0 where each of the map's fields may be read.
-pub fn fields_refusal(chip: MapChip, dump: &[u32], map: &[u8]) -> u8
-    ensures { λ r. ⌜ r ≡ fieldsRefusal eight chip (now (dump .entry)) (now (map .entry)) ⌝ }
+pub fn fields_refusal(chip: MapChip, dump: &[u32], map: &[u8]) -> Refusal
+    ensures { λ r. ⌜ r ≡ toldOf eight chip (now (map .entry)) (fieldsRefusal eight chip (now (dump .entry)) (now (map .entry))) ⌝ }
 {
     let number = dump_refusal(dump);
     if number != refusal::NONE {
-        return number;
+        return refusal::plain(number);
     }
     map_refusal(chip, map)
 }
 
 // The same for a unit and an attenuation: 1, 7, then the map's.
-pub fn decoding_refusal(chip: MapChip, dump: &[u32], map: &[u8], unit: u8, atten: u8) -> u8
-    ensures { λ r. ⌜ r ≡ decodingRefusal eight chip (now (dump .entry)) (now (map .entry)) unit atten ⌝ }
+pub fn decoding_refusal(chip: MapChip, dump: &[u32], map: &[u8], unit: u8, atten: u8) -> Refusal
+    ensures { λ r. ⌜ r ≡ toldOf eight chip (now (map .entry)) (decodingRefusal eight chip (now (dump .entry)) (now (map .entry)) unit atten) ⌝ }
 {
     let short = dump_refusal(dump);
     if short != refusal::NONE {
-        return short;
+        return refusal::plain(short);
     }
     let number = unit_refusal(unit, atten);
     if number != refusal::NONE {
-        return number;
+        return refusal::plain(number);
     }
     map_refusal(chip, map)
 }

@@ -3,10 +3,12 @@ use mathlib.Core.Path.{_≡_, sym, _∙_, ap}
 use Prim.Native.Nat.{ℕ, _≤_}
 use native.Mathlib.Omega.{arith}
 use Rattle.terms.specs.declared.quantity.Millivolt.{Millivolt}
+use Rattle.terms.specs.declared.refusal.Refusal.{Refusal}
 use Rattle.terms.specs.declared.voltage.Voltage.the-variants.{Value, Refused}
+use Rattle.terms.specs.Refusal.{plain}
 use Rattle.terms.specs.Voltage.{valueOf}
 use Rattle.terms.proofs.Order.{zero-or}
-use Rattle.terms.proofs.Refusals.{byNumber-good, byNumber-refused}
+use Rattle.terms.proofs.Refusals.{byNumber-good, byNumber-refused, answered-refused}
 use Rattle.line_record.specs.declared.record.LineRecord.{LineRecord}
 use Rattle.line.specs.Convert.{answerAt, convertRefusal, convertOf}
 use Rattle.line.proofs.Answers.{answer-most}
@@ -19,9 +21,9 @@ module _ (r : LineRecord) (raw : ℕ) where
   unfolding convertOf
   convert-voltage e v = sym (byNumber-good _ _ _ e ∙ ap (λ (n : ℕ). Value (record { 0 = n })) (sym v))
 
-  pub convert-refused : {n : ℕ} → n ≡ convertRefusal r raw → (n ≡ 0 → ⊥) → Refused (record { number = n }) ≡ convertOf r raw
+  pub convert-refused : {why : Refusal} {n : ℕ} → why ≡ plain n → n ≡ convertRefusal r raw → (n ≡ 0 → ⊥) → Refused why ≡ convertOf r raw
   unfolding convertOf
-  convert-refused e h = rw (← e) (sym (byNumber-refused _ _ _ h))
+  convert-refused p e h = answered-refused _ _ Refused p e h
 
   -- no answer is above 12,285
   pub convert-most : valueOf (convertOf r raw) .0 ≤ 12285

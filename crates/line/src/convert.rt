@@ -7,7 +7,6 @@ use line_record::record::uses_lookup;
 use terms::quantity::Count;
 use terms::quantity::Millivolt;
 use terms::refusal;
-use terms::refusal::Refusal;
 use terms::voltage::Voltage;
 ghost use mathlib.Core.Path.{_≡_};
 ghost use mathlib.Core.Bool.{true};
@@ -94,7 +93,7 @@ pub fn convert(cal: LineRecord, count: Count) -> Voltage
     let raw = count.0;
     let number = convert_refusal(cal, raw);
     if number != refusal::NONE {
-        return Voltage::Refused(Refusal { number });
+        return Voltage::Refused(refusal::plain(number));
     }
     let mv = answer(cal, raw as u32) as u16;
     Voltage::Value(Millivolt(mv))

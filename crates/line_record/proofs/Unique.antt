@@ -1,7 +1,7 @@
 -- Each public call's promise, as the check reads it from the source, admits one answer per input: it is an equation. Assumes nothing.
 use mathlib.Core.Path.{sym, _∙_}
 use Rattle.terms.specs.OneAnswer.{OneAnswer}
-use Rattle.line_record.proofs.decoded.number_of.Reads as number-of
+use Rattle.line_record.proofs.decoded.refusal_of.Reads as refusal-of
 use Rattle.line_record.proofs.record.line_record.Reads as line-record
 use Rattle.line_record.proofs.record.check_record.Reads as check-record
 use Rattle.line_record.proofs.record.uses_lookup.Reads as uses-lookup
@@ -19,5 +19,5 @@ uses-lookup-one κs a z z′ e e′ p q = p ∙ sym q
 pub record-refusal-one : OneAnswer (λ κs z e. z) record-refusal.Post
 record-refusal-one κs a z z′ e e′ p q = p ∙ sym q
 
-pub number-of-one : OneAnswer (λ κs z e. z) number-of.Post
-number-of-one κs a z z′ e e′ p q = p ∙ sym q
+pub refusal-of-one : OneAnswer (λ κs z e. z) refusal-of.Post
+refusal-of-one κs a z z′ e e′ p q = p ∙ sym q

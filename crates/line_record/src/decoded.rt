@@ -3,19 +3,19 @@ use crate::record::LineRecord;
 use terms::refusal;
 use terms::refusal::Refusal;
 ghost use mathlib.Core.Path.{_≡_};
-ghost use Rattle.line_record.specs.Decoded.{numberOf};
+ghost use Rattle.line_record.specs.Decoded.{refusalOf};
 
 pub enum Decoded {
     Record(LineRecord),
     Refused(Refusal),
 }
 
-// Document 01's number of a decoding: 0 where there is a record.
-pub fn number_of(decoded: Decoded) -> u8
-    ensures { λ r. ⌜ r ≡ numberOf decoded ⌝ }
+// The refusal of a decoding, as it is; its number is 0 where there is a record.
+pub fn refusal_of(decoded: Decoded) -> Refusal
+    ensures { λ r. ⌜ r ≡ refusalOf decoded ⌝ }
 {
     match decoded {
-        Decoded::Record(_) => refusal::NONE,
-        Decoded::Refused(why) => why.number,
+        Decoded::Record(_) => refusal::plain(refusal::NONE),
+        Decoded::Refused(why) => why,
     }
 }

@@ -74,5 +74,5 @@ pub fn record_refusal(cal: LineRecord) -> u8
 pub fn check_record(cal: LineRecord) -> Outcome
     ensures { λ r. ⌜ r ≡ outcomeOf (recordRefusal cal) ⌝ }
 {
-    refusal::outcome_of(record_refusal(cal))
+    refusal::outcome_of(refusal::plain(record_refusal(cal)))
 }

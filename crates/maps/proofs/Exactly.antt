@@ -19,7 +19,7 @@ use Rattle.efuse.specs.declared.field.EfuseField.{EfuseField}
 use Rattle.efuse.specs.When.{PlaceWhen}
 use Rattle.efuse.proofs.Exactly.{place-exactly}
 use Rattle.maps.specs.Map.{recordByte, fieldOf, strayOf, idsOf, countsOf, countRefusal, mapRecordRefusal, mapRecordRefusals, mapRefusal}
-use Rattle.maps.specs.When.{Shaped, MapRecordWhen, bad-shape, bad-place, bad-count, good-record}
+use Rattle.maps.specs.When.{Zeros, Shaped, MapRecordWhen, bad-id, bad-byte, bad-place, bad-count, good-record}
 use Rattle.maps.specs.When.{MapWhen, bad-length, records}
 use Rattle.maps.proofs.Maps.{record-id, record-stray, record-place, record-count, map-length, map-records}
 
@@ -29,33 +29,29 @@ module _ (words : ℕ → ℕ) (map : List ℕ) where
     abbrev f : EfuseField
     f = fieldOf map k
 
-    no-stray : Shaped map id k → strayOf map k ≡ 0
-    no-stray s = simp (eq-eqb _ _ (s .fifth), eq-eqb _ _ (s .sixth), eq-eqb _ _ (s .seventh))
+    no-stray : Zeros map k → strayOf map k ≡ 0
+    no-stray z = simp (eq-eqb _ _ (z .fifth), eq-eqb _ _ (z .sixth), eq-eqb _ _ (z .seventh))
 
-    shaped : recordByte map k 0 ≡ id → strayOf map k ≡ 0 → Shaped map id k
-    shaped i s =
+    zeros : strayOf map k ≡ 0 → Zeros map k
+    zeros s =
         let p = refuse-none (not (eqb (recordByte map k 5) 0)) 4 _ s in
         let q = refuse-none (not (eqb (recordByte map k 6) 0)) 5 _ (p .1) in
         let z = refuse-none (not (eqb (recordByte map k 7) 0)) 6 0 (q .1) in
         record {
-          id-is = i;
           fifth = eqb-true _ _ (not-false _ (p .0));
           sixth = eqb-true _ _ (not-false _ (q .0));
           seventh = eqb-true _ _ (not-false _ (z .0));
         }
 
     count-is : Shaped map id k → PlaceWhen words f 0 → mapRecordRefusal words map id k ≡ countRefusal id (f .«bit_count»)
-    count-is s p = record-count words map id k (s .id-is) (no-stray s) refl (sym (place-exactly words f 0 .1 p)) refl
+    count-is s p = record-count words map id k (s .0) (no-stray (s .1)) refl (sym (place-exactly words f 0 .1 p)) refl
 
     record-gives : (n : ℕ) → MapRecordWhen words map id k n → mapRecordRefusal words map id k ≡ n
     unfolding countRefusal
-    record-gives _ (bad-shape h) =
-        sym
-        (equal-or (recordByte map k 0) id
-        (λ i. record-stray words map id k i (λ s. h (shaped i s)))
-        (λ i. record-id words map id k i))
+    record-gives _ (bad-id h) = sym (record-id words map id k h)
+    record-gives _ (bad-byte i h) = sym (record-stray words map id k i (λ s. h (zeros s)))
     record-gives n (bad-place s p some) =
-        sym (record-place words map id k (s .id-is) (no-stray s) refl (sym (place-exactly words f n .1 p)) some)
+        sym (record-place words map id k (s .0) (no-stray (s .1)) refl (sym (place-exactly words f n .1 p)) some)
     record-gives _ (bad-count s p (inl h)) = count-is s p ∙ simp (lt-ltb _ _ h)
     record-gives _ (bad-count s p (inr h)) =
         count-is s p
@@ -76,9 +72,11 @@ module _ (words : ℕ → ℕ) (map : List ℕ) where
         equal-or (recordByte map k 0) id
         (λ i.
         equal-or (strayOf map k) 0
-        (λ z. let s = shaped i z in by-first (place-exactly words f) (λ p. by-count s p) (λ n p some. (n, bad-place s p some)))
-        (λ z. (3, bad-shape (λ s. z (no-stray s)))))
-        (λ i. (3, bad-shape (λ s. i (s .id-is))))
+        (λ z.
+        let s : Shaped map id k = (i, zeros z) in
+        by-first (place-exactly words f) (λ p. by-count s p) (λ n p some. (n, bad-place s p some)))
+        (λ z. (18, bad-byte i (λ s. z (no-stray s)))))
+        (λ i. (3, bad-id i))
 
     pub record-exactly : Exactly (mapRecordRefusal words map id k) (MapRecordWhen words map id k)
     record-exactly = exactly record-gives record-some

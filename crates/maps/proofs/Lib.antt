@@ -1,4 +1,5 @@
 pub mod Exactly
 pub mod Maps
 pub mod Says
+pub mod Told
 pub mod Unique

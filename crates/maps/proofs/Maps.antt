@@ -41,7 +41,7 @@ module _ (words : ℕ → ℕ) (map : List ℕ) where
     unfolding mapRecordRefusal
     record-id i = simp (ne-eqb _ _ i)
 
-    pub record-stray : recordByte map k 0 ≡ id → (strayOf map k ≡ 0 → ⊥) → 3 ≡ mapRecordRefusal words map id k
+    pub record-stray : recordByte map k 0 ≡ id → (strayOf map k ≡ 0 → ⊥) → 18 ≡ mapRecordRefusal words map id k
     unfolding mapRecordRefusal
     record-stray i s = simp (eq-eqb _ _ i, ne-eqb _ _ s)
 
@@ -63,7 +63,7 @@ module _ (words : ℕ → ℕ) (map : List ℕ) where
     unfolding mapRecordRefusal
     record-good e =
         let p = refuse-none (not (eqb (recordByte map k 0) id)) 2 _ e in
-        let q = refuse-none (not (eqb (strayOf map k) 0)) 2 _ (p .1) in
+        let q = refuse-none (not (eqb (strayOf map k) 0)) 17 _ (p .1) in
         orElse-none (placeRefusal words (fieldOf map k)) _ (q .1)
 
   -- which case a map's refusal is

@@ -1,13 +1,15 @@
--- The number of each answer is document 01's. Assumes nothing.
+-- The refusal of each answer is document 01's, with what document 02, #102, has it tell. Assumes nothing.
 use mathlib.Core.Path.{_≡_}
 use mathlib.Core.List.{List}
 use Prim.Native.Nat.{ℕ}
 use Rattle.terms.specs.declared.chip.MapChip.{MapChip}
-use Rattle.terms.specs.Refusal.{outcomeOf, numberOf}
-use Rattle.terms.proofs.Says.{outcome-says}
+use Rattle.terms.specs.Refusal.{outcomeTold, refusalOf}
+use Rattle.terms.proofs.Says.{outcome-told}
 use Rattle.maps.specs.Map.{mapRefusal}
+use Rattle.maps.specs.Told.{toldOf}
+use Rattle.maps.proofs.Told.{told-none}
 
--- `check_map`, which has no values
-pub check-map-says : (words : ℕ → ℕ) (chip : MapChip) (map : List ℕ)
-    → numberOf (outcomeOf (mapRefusal words chip map)) ≡ mapRefusal words chip map
-check-map-says words chip map = outcome-says _
+module _ (words : ℕ → ℕ) (chip : MapChip) (map : List ℕ) where
+  -- `check_map`, which has no values
+  pub check-map-says : refusalOf (outcomeTold (toldOf words chip map (mapRefusal words chip map))) ≡ toldOf words chip map (mapRefusal words chip map)
+  check-map-says = outcome-told _ (told-none words map chip _)

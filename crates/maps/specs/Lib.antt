@@ -1,3 +1,4 @@
 pub mod Map
+pub mod Told
 pub mod Value
 pub mod When

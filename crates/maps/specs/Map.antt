@@ -1,5 +1,5 @@
--- Document 01, "Dumps, maps and logs": field maps, with their refusals: 2, then records first to last with 3, 4, 5, 6 within each.
--- A map is the list of its bytes.
+-- Document 01, "Dumps, maps and logs": field maps, with their refusals: 2, then records first to last, by document 02, #102, with 3, 18,
+-- 4, 5, 6 within each. A map is the list of its bytes.
 use mathlib.Core.Bool.{not, _||_}
 use mathlib.Core.List.{List, [], _∷_}
 use Prim.Native.Nat.{ℕ, _+_, _*_, _-_}
@@ -64,12 +64,13 @@ unfoldable pub countRefusal : ℕ → ℕ → ℕ
 countRefusal id count = refuse (ltb count (countsOf id .min) || ltb (countsOf id .max) count) 6 0
 
 -- of record k, which should have that id
--- 3: a map record's id or a zero byte is wrong
+-- 3: "wrong id alone"
+-- 18: a "nonzero byte" among the last three
 -- then 4, 5 for its field's place, then 6
 unfoldable pub mapRecordRefusal : (ℕ → ℕ) → List ℕ → ℕ → ℕ → ℕ
 mapRecordRefusal words map id k =
     refuse (not (eqb (recordByte map k 0) id)) 3
-    (refuse (not (eqb (strayOf map k) 0)) 3
+    (refuse (not (eqb (strayOf map k) 0)) 18
     (orElse (placeRefusal words (fieldOf map k))
     (countRefusal id (fieldOf map k .«bit_count»))))
 

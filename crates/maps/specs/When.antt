@@ -1,4 +1,4 @@
--- Document 01, "Numbers given when a call is turned down": when a map gives each number.
+-- Document 01, "Numbers given when a call is turned down", and document 02, #102: when a map gives each number.
 -- A case says too that nothing before it in the call's order is given; 0 is given where the call isn't turned down.
 use mathlib.Core.Path.{_≡_}
 use mathlib.Core.Logic.{_⊎_}
@@ -10,19 +10,24 @@ use Rattle.terms.specs.When.{FirstWhen}
 use Rattle.efuse.specs.When.{PlaceWhen}
 use Rattle.maps.specs.Map.{recordByte, fieldOf, idsOf, countsOf}
 
--- a map record's id and zero bytes
-pub record Shaped (map : List ℕ) (id k : ℕ) : Type 0 where
-  pub id-is : recordByte map k 0 ≡ id
+-- the last three bytes of a map's record, which should be zero
+pub record Zeros (map : List ℕ) (k : ℕ) : Type 0 where
   pub fifth : recordByte map k 5 ≡ 0
   pub sixth : recordByte map k 6 ≡ 0
   pub seventh : recordByte map k 7 ≡ 0
 
--- record k of a map, which should have that id: "3, 4, 5, 6 within each"
--- 3: "a map record's id or a zero byte is wrong"
+-- its id is right, and so are those bytes
+abbrev pub Shaped : List ℕ → ℕ → ℕ → Type 0
+Shaped map id k = (recordByte map k 0 ≡ id) × Zeros map k
+
+-- record k of a map, which should have that id: 3, 18, 4, 5, 6 within each
+-- 3: "wrong id alone"
+-- 18: "nonzero byte"
 -- 4, 5: its field's place
 -- 6: "bit count not as in the table"
 pub data MapRecordWhen (words : ℕ → ℕ) (map : List ℕ) (id k : ℕ) : ℕ → Type 0 where
-  bad-shape : (Shaped map id k → ⊥) → MapRecordWhen words map id k 3
+  bad-id : (recordByte map k 0 ≡ id → ⊥) → MapRecordWhen words map id k 3
+  bad-byte : recordByte map k 0 ≡ id → (Zeros map k → ⊥) → MapRecordWhen words map id k 18
   bad-place : {n : ℕ} → Shaped map id k → PlaceWhen words (fieldOf map k) n → (n ≡ 0 → ⊥) → MapRecordWhen words map id k n
   bad-count : Shaped map id k → PlaceWhen words (fieldOf map k) 0
       → (fieldOf map k .«bit_count» < countsOf id .min) ⊎ (countsOf id .max < fieldOf map k .«bit_count») → MapRecordWhen words map id k 6

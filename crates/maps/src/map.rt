@@ -5,12 +5,16 @@ use terms::bytes::u16_of;
 use terms::chip::MapChip;
 use terms::refusal;
 use terms::refusal::Outcome;
+use terms::refusal::Refusal;
 ghost use mathlib.Core.Path.{_≡_};
+ghost use mathlib.Core.Bool.{cond};
 ghost use Prim.Native.Nat.{_+_, _*_, _≤_, _<_};
+ghost use lib.Dec.{eqb};
 ghost use lib.ListN.{getD};
-ghost use Rattle.terms.specs.Refusal.{outcomeOf, firstOf};
+ghost use Rattle.terms.specs.Refusal.{firstOf, outcomeTold};
 ghost use Rattle.dumps.specs.Dump.{eight};
 ghost use Rattle.maps.specs.Map.{idsOf, recordByte, fieldOf, strayOf, exactly, bitCounts, countRefusal, mapRecordRefusal, mapRecordRefusals, mapRefusal};
+ghost use Rattle.maps.specs.Told.{toldFrom, toldOf};
 
 const RECORD_BYTES: usize = 8;
 
@@ -118,16 +122,16 @@ fn stray(map: &[u8], k: usize) -> u8
     0
 }
 
-// The first thing wrong with record k, which should have that id: 3, 4, 5, 6.
+// The first thing wrong with record k, which should have that id: 3, 18, 4, 5, 6.
 fn map_record_refusal(map: &[u8], id: usize, k: usize) -> u8
     requires { ⌜ (1 ≤ id) × (id ≤ 23) ⌝ }
     ensures { λ r. ⌜ r ≡ mapRecordRefusal eight (now (map .entry)) id k ⌝ }
 {
     if record_byte(map, k, 0) as usize != id {
-        return refusal::MAP_RECORD;
+        return refusal::MAP_ID;
     }
     if stray(map, k) != 0 {
-        return refusal::MAP_RECORD;
+        return refusal::MAP_BYTE;
     }
     let field = field_at(map, k);
     let place = place_refusal(field);
@@ -152,39 +156,53 @@ fn count_refusal(id: usize, count: u16) -> u8
     refusal::NONE
 }
 
-// The first thing wrong with the first n records, whose ids should rise from the first one on.
-fn first_refusal(map: &[u8], first: usize, n: usize) -> u8
+// The place that record k tells with its number: at 18 that of its first nonzero byte, else 0.
+fn told_place(map: &[u8], k: usize, number: u8) -> u8
+    ensures { λ r. ⌜ r ≡ cond (eqb number 18) (strayOf (now (map .entry)) k) 0 ⌝ }
+{
+    if number == refusal::MAP_BYTE {
+        return stray(map, k);
+    }
+    0
+}
+
+// The first thing wrong with the first n records, whose ids should rise from the first one on, and which record it is in.
+fn first_refusal(map: &[u8], first: usize, n: usize) -> Refusal
     requires { ⌜ (1 ≤ first) × (first + n ≤ 24) ⌝ }
-    ensures { λ r. ⌜ r ≡ firstOf (mapRecordRefusals eight (now (map .entry)) first) 0 n ⌝ }
+    ensures { λ r. ⌜ r ≡ toldFrom eight (now (map .entry)) first n (firstOf (mapRecordRefusals eight (now (map .entry)) first) 0 n) ⌝ }
 {
     let mut k = 0;
     while k < n {
         let number = map_record_refusal(map, first + k, k);
         if number != refusal::NONE {
-            return number;
+            return Refusal {
+                number,
+                record: k as u8,
+                place: told_place(map, k, number),
+            };
         }
         k += 1;
     }
-    refusal::NONE
+    refusal::plain(refusal::NONE)
 }
 
 // The first thing wrong with a map: 2, then its records first to last.
-pub fn map_refusal(chip: MapChip, map: &[u8]) -> u8
-    ensures { λ r. ⌜ r ≡ mapRefusal eight chip (now (map .entry)) ⌝ }
+pub fn map_refusal(chip: MapChip, map: &[u8]) -> Refusal
+    ensures { λ r. ⌜ r ≡ toldOf eight chip (now (map .entry)) (mapRefusal eight chip (now (map .entry))) ⌝ }
 {
     let ids = ids_of(chip);
     let first = ids.first;
     let n = ids.len;
     if map.len() != RECORD_BYTES * n {
-        return refusal::MAP;
+        return refusal::plain(refusal::MAP);
     }
     first_refusal(map, first, n)
 }
 
 // Good where the map is its chip's: then each of its fields is read without refusal. Else the first thing wrong with it: 2, then
-// records first to last with 3, 4, 5, 6 within each.
+// records first to last with 3, 18, 4, 5, 6 within each, and which record it is in.
 pub fn check_map(chip: MapChip, map: &[u8]) -> Outcome
-    ensures { λ r. ⌜ r ≡ outcomeOf (mapRefusal eight chip (now (map .entry))) ⌝ }
+    ensures { λ r. ⌜ r ≡ outcomeTold (toldOf eight chip (now (map .entry)) (mapRefusal eight chip (now (map .entry)))) ⌝ }
 {
     refusal::outcome_of(map_refusal(chip, map))
 }

@@ -2,7 +2,6 @@
 use terms::c6_version::rtc_calib_version;
 use terms::quantity::Millivolt;
 use terms::refusal;
-use terms::refusal::Refusal;
 use terms::refusal::unit_refusal;
 use terms::voltage::Voltage;
 ghost use mathlib.Core.Path.{_≡_};
@@ -30,7 +29,7 @@ pub fn rtc_calib_cal_mv(minor: u8, unit: u8, atten: u8) -> Voltage
 {
     let number = unit_refusal(unit, atten);
     if number != refusal::NONE {
-        return Voltage::Refused(Refusal { number });
+        return Voltage::Refused(refusal::plain(number));
     }
     Voltage::Value(Millivolt(input_vout_mv(rtc_calib_version(minor), atten)))
 }

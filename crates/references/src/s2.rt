@@ -1,7 +1,6 @@
 // The S2's reference voltages, by attenuation.
 use terms::quantity::Millivolt;
 use terms::refusal;
-use terms::refusal::Refusal;
 use terms::refusal::unit_refusal;
 use terms::voltage::Voltage;
 ghost use mathlib.Core.Path.{_≡_};
@@ -24,7 +23,7 @@ pub fn rtc_calib_cal_mv(unit: u8, atten: u8) -> Voltage
 {
     let number = unit_refusal(unit, atten);
     if number != refusal::NONE {
-        return Voltage::Refused(Refusal { number });
+        return Voltage::Refused(refusal::plain(number));
     }
     Voltage::Value(Millivolt(cal_millivolts(atten)))
 }

@@ -7,6 +7,7 @@ use native.Mathlib.Omega.{arith}
 use lib.IntN.{pos}
 use Rattle.terms.specs.Code.{valueOf}
 use Rattle.terms.proofs.Check.{rule}
+use Rattle.maps.specs.Told.{toldOf}
 use Rattle.s2_readings.specs.declared.tag.RtcCalibParam.{RtcCalibParam}
 use Rattle.s2_readings.specs.declared.tag.RtcCalibParam.the-variants.{Vhigh, Vinit}
 use Rattle.s2_readings.specs.Table.{calibMap, entryAt, along}
@@ -50,7 +51,7 @@ module _ (words : ℕ → ℕ) (dump map : List ℕ) (unit atten : ℕ) (good : 
     -- the code is the reading itself, and in its range
     code-answer : let v = valueOf (codeOf words dump map unit atten param) in
         (pos v ≡ readingOf dump false (tagOf 2 unit atten param)) × ((low ≤ v) × (v ≤ high))
-    unfolding codeOf
+    unfolding codeOf toldOf
     code-answer = rw good (sym (code-between .whole), (code-between .least, code-between .most))
 
   pub code-whole : (pos (valueOf (initCodeOf words dump map unit atten)) ≡ readingOf dump false (tagOf 2 unit atten Vinit))

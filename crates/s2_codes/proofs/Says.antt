@@ -1,11 +1,14 @@
--- The number and the value of a code are document 01's. Assumes nothing.
+-- The refusal and the value of a code are document 01's. Assumes nothing.
 use mathlib.Core.Bool.{false}
 use mathlib.Core.List.{List}
 use Prim.Native.Nat.{ℕ}
 use lib.IntN.{natAbs}
-use Rattle.terms.specs.Code.{numberOf, valueOf}
+use Rattle.terms.specs.declared.chip.MapChip.the-variants.{S2}
+use Rattle.terms.specs.Code.{refusalOf, valueOf}
 use Rattle.terms.specs.Says.{Says}
-use Rattle.terms.proofs.Says.{code-says as code-given}
+use Rattle.terms.proofs.Says.{code-paper}
+use Rattle.maps.specs.Told.{toldOf}
+use Rattle.maps.proofs.Told.{map-says}
 use Rattle.s2_readings.specs.declared.tag.RtcCalibParam.{RtcCalibParam}
 use Rattle.s2_readings.specs.Reading.{readingOf}
 use Rattle.s2_readings.specs.Tag.{tagOf}
@@ -13,8 +16,8 @@ use Rattle.s2_codes.specs.Code.{codeRefusal, codeOf}
 
 -- `rtc_calib_init_code` and `rtc_calib_cal_code`, by the parameter
 pub code-says : (words : ℕ → ℕ) (dump map : List ℕ) (unit atten : ℕ) (param : RtcCalibParam)
-    → Says numberOf valueOf 0
-    (codeOf words dump map unit atten param) (codeRefusal words dump map unit atten)
+    → Says refusalOf valueOf 0
+    (codeOf words dump map unit atten param) (toldOf words S2 map (codeRefusal words dump map unit atten))
     (natAbs (readingOf dump false (tagOf 2 unit atten param)))
 unfolding codeOf
-code-says words dump map unit atten param = code-given _ _
+code-says words dump map unit atten param = map-says words map S2 code-paper _ _

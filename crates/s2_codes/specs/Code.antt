@@ -6,7 +6,8 @@ use Prim.Native.Nat.{ℕ}
 use lib.Dec.{eqb}
 use lib.IntN.{natAbs}
 use Rattle.terms.specs.declared.chip.MapChip.the-variants.{S2}
-use Rattle.terms.specs.Refusal.{refuse, orElse, answered}
+use Rattle.terms.specs.Refusal.{refuse, orElse, told}
+use Rattle.maps.specs.Told.{toldOf}
 use Rattle.inputs.specs.Input.{decodingRefusal}
 use Rattle.terms.specs.declared.code.Code.{Code}
 use Rattle.terms.specs.declared.code.Code.the-variants.{Value, Refused}
@@ -26,7 +27,9 @@ codeRefusal words dump map unit atten =
 -- version 2's reading of a parameter, which is never negative (`code-whole`)
 unfoldable pub codeOf : (ℕ → ℕ) → List ℕ → List ℕ → ℕ → ℕ → RtcCalibParam → Code
 codeOf words dump map unit atten param =
-    answered (codeRefusal words dump map unit atten) (Value (natAbs (readingOf dump false (tagOf 2 unit atten param)))) Refused
+    told (toldOf words S2 map (codeRefusal words dump map unit atten))
+    (Value (natAbs (readingOf dump false (tagOf 2 unit atten param))))
+    Refused
 
 abbrev pub initCodeOf : (ℕ → ℕ) → List ℕ → List ℕ → ℕ → ℕ → Code
 initCodeOf words dump map unit atten = codeOf words dump map unit atten Vinit

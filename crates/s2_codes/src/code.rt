@@ -14,7 +14,9 @@ ghost use mathlib.Core.Bool.{false};
 ghost use Prim.Native.Nat.{_≤_};
 ghost use lib.IntN.{pos};
 ghost use lib.ListN.{length};
+ghost use Rattle.terms.specs.declared.chip.MapChip.the-variants.{S2};
 ghost use Rattle.dumps.specs.Dump.{eight};
+ghost use Rattle.maps.specs.Told.{toldOf};
 ghost use Rattle.s2_readings.specs.Reading.{readingOf};
 ghost use Rattle.s2_readings.specs.Tag.{tagOf};
 ghost use Rattle.s2_codes.specs.Code.{codeRefusal, codeOf, initCodeOf, calCodeOf};
@@ -22,17 +24,17 @@ ghost use Rattle.s2_codes.specs.Code.{codeRefusal, codeOf, initCodeOf, c
 const CODE_VERSION: u8 = 2;
 
 // The first thing wrong with a call for a code: 1, 7, the map's, 12.
-fn code_refusal(dump: &[u32], map: &[u8], unit: u8, atten: u8) -> u8
-    ensures { λ r. ⌜ r ≡ codeRefusal eight (now (dump .entry)) (now (map .entry)) unit atten ⌝ }
+fn code_refusal(dump: &[u32], map: &[u8], unit: u8, atten: u8) -> Refusal
+    ensures { λ r. ⌜ r ≡ toldOf eight S2 (now (map .entry)) (codeRefusal eight (now (dump .entry)) (now (map .entry)) unit atten) ⌝ }
 {
-    let number = decoding_refusal(MapChip::S2, dump, map, unit, atten);
-    if number != refusal::NONE {
-        return number;
+    let why = decoding_refusal(MapChip::S2, dump, map, unit, atten);
+    if why.number != refusal::NONE {
+        return why;
     }
     if record_value(dump, map, BLK_VERSION_MINOR) != CODE_VERSION as u32 {
-        return refusal::VERSION;
+        return refusal::plain(refusal::VERSION);
     }
-    refusal::NONE
+    refusal::plain(refusal::NONE)
 }
 
 // A reading of version 2 as a code of 16 bits.
@@ -51,9 +53,9 @@ fn code_at(dump: &[u32], unit: u8, atten: u8, param: RtcCalibParam) -> u16
 fn code_of(dump: &[u32], map: &[u8], unit: u8, atten: u8, param: RtcCalibParam) -> Code
     ensures { λ r. ⌜ r ≡ codeOf eight (now (dump .entry)) (now (map .entry)) unit atten param ⌝ }
 {
-    let number = code_refusal(dump, map, unit, atten);
-    if number != refusal::NONE {
-        return Code::Refused(Refusal { number });
+    let why = code_refusal(dump, map, unit, atten);
+    if why.number != refusal::NONE {
+        return Code::Refused(why);
     }
     Code::Value(code_at(dump, unit, atten, param))
 }

@@ -1,12 +1,12 @@
--- The number and the value of each reading are document 01's. Assumes nothing.
+-- The refusal and the value of each reading are document 01's. Assumes nothing.
 use mathlib.Core.Bool.{true, false}
 use mathlib.Core.List.{List, []}
 use Prim.Native.Nat.{ℕ}
 use lib.IntN.{pos}
 use Rattle.terms.specs.Reading as reading
-use Rattle.terms.specs.Refusal.{unitRefusal}
+use Rattle.terms.specs.Refusal.{plain, unitRefusal}
 use Rattle.terms.specs.Says.{Says}
-use Rattle.terms.proofs.Says.{reading-says as reading-given}
+use Rattle.terms.proofs.Says.{says, reading-paper}
 use Rattle.s2_readings.specs.declared.tag.RtcCalibParam.{RtcCalibParam}
 use Rattle.s2_readings.specs.Reading.{readingOf, readingRefusal, calibReadingOf, skippedReadingOf}
 use Rattle.s2_readings.specs.Tag.{tagOf}
@@ -14,14 +14,14 @@ use Rattle.s2_readings.specs.Tag.{tagOf}
 module _ (version unit atten : ℕ) (param : RtcCalibParam) where
   -- `rtc_calib_reading`
   pub reading-says : (dump : List ℕ)
-      → Says reading.numberOf reading.valueOf (pos 0)
-      (calibReadingOf dump version unit atten param) (readingRefusal dump unit atten)
+      → Says reading.refusalOf reading.valueOf (pos 0)
+      (calibReadingOf dump version unit atten param) (plain (readingRefusal dump unit atten))
       (readingOf dump false (tagOf version unit atten param))
   unfolding calibReadingOf
-  reading-says dump = reading-given _ _
+  reading-says dump = says reading-paper _ _
 
   -- `rtc_calib_reading_skipped`
-  pub skipped-says : Says reading.numberOf reading.valueOf (pos 0)
-      (skippedReadingOf version unit atten param) (unitRefusal unit atten) (readingOf [] true (tagOf version unit atten param))
+  pub skipped-says : Says reading.refusalOf reading.valueOf (pos 0)
+      (skippedReadingOf version unit atten param) (plain (unitRefusal unit atten)) (readingOf [] true (tagOf version unit atten param))
   unfolding skippedReadingOf
-  skipped-says = reading-given _ _
+  skipped-says = says reading-paper _ _

@@ -8,7 +8,6 @@ use efuse::field::Read;
 use efuse::field::read_field_u32;
 use terms::reading::Reading;
 use terms::refusal;
-use terms::refusal::Refusal;
 use terms::refusal::unit_refusal;
 ghost use mathlib.Core.Path.{_≡_};
 ghost use mathlib.Core.Bool.{false};
@@ -102,7 +101,7 @@ pub fn rtc_calib_reading(
 {
     let number = reading_refusal(dump, unit, atten);
     if number != refusal::NONE {
-        return Reading::Refused(Refusal { number });
+        return Reading::Refused(refusal::plain(number));
     }
     Reading::Value(rtc_calib_parsed(dump, rtc_calib_tag(version, unit, atten, param), false))
 }
@@ -113,7 +112,7 @@ pub fn rtc_calib_reading_skipped(version: u8, unit: u8, atten: u8, param: RtcCal
 {
     let number = unit_refusal(unit, atten);
     if number != refusal::NONE {
-        return Reading::Refused(Refusal { number });
+        return Reading::Refused(refusal::plain(number));
     }
     Reading::Value(rtc_calib_parsed(&[], rtc_calib_tag(version, unit, atten, param), true))
 }

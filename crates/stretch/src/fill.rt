@@ -18,7 +18,6 @@ use line_record::record::uses_lookup;
 use terms::quantity::Count;
 use terms::refusal;
 use terms::refusal::Outcome;
-use terms::refusal::Refusal;
 ghost use mathlib.Core.Path.{_≡_};
 ghost use mathlib.Core.Bool.{true};
 ghost use Prim.Native.Nat.{_+_, _≤_, min};
@@ -138,7 +137,7 @@ pub fn fill(cal: LineRecord, first: Count, out: &mut [u16]) -> Outcome
     let from = first.0 as u32;
     let number = fill_refusal(cal, from, out.len());
     if number != refusal::NONE {
-        return Outcome::Refused(Refusal { number });
+        return Outcome::Refused(refusal::plain(number));
     }
     fill_answers(cal, from, out);
     Outcome::Good

@@ -6,8 +6,8 @@ use native.Mathlib.Numerals.{add-one}
 use native.Mathlib.Omega.{arith}
 use borrow.Author.Count.{below-more}
 use Rattle.terms.specs.Exactly.{Exactly}
-use Rattle.terms.specs.Refusal.{firstOf, unitRefusal, rawRefusal}
-use Rattle.terms.specs.When.{UnitWhen, bad-unit, good-unit, RawWhen, bad-raw, good-raw, FirstWhen, fault, no-fault}
+use Rattle.terms.specs.Refusal.{firstOf, firstAt, unitRefusal, rawRefusal}
+use Rattle.terms.specs.When.{UnitWhen, bad-unit, good-unit, RawWhen, bad-raw, good-raw, FirstFault, FirstWhen, fault, no-fault}
 use Rattle.terms.proofs.Order.{either, zero-or}
 use Rattle.terms.proofs.Refusals.{unit-good, unit-above, raw-good, raw-above, Passed, first-start, first-pass, first-stop, first-none}
 
@@ -60,8 +60,14 @@ module _ {When : ℕ → ℕ → Type 0} {numbers : ℕ → ℕ} (each : (k : �
       rw add-one at
       (first-pass numbers len k h (passed k (omega arith) (λ j b. good j (omega arith))) (each k 0 .1 (good k (omega arith))))
 
+  -- the first record with a fault gives the run's number, and stands where the first number does
+  pub first-fault : {n k : ℕ} → FirstFault When len n k → (firstOf numbers 0 len ≡ n) × (firstAt numbers 0 len ≡ k)
+  first-fault {n} {k} f =
+      let h : k < len = f .inside in
+      first-stop numbers len k h (passed k (omega arith) (f .earlier)) (each k n .1 (f .here)) (f .some)
+
   first-given : (n : ℕ) → FirstWhen When len n → firstOf numbers 0 len ≡ n
-  first-given n (fault k h good w some) = first-stop numbers len k h (passed k (omega arith) good) (each k n .1 w) some
+  first-given n (fault k f) = first-fault f .0
   first-given n (no-fault good) = first-none numbers len len (omega arith) (passed len (omega arith) good)
 
   -- the search goes on from record k, all before it good, with this many left
@@ -70,7 +76,7 @@ module _ {When : ℕ → ℕ → Type 0} {numbers : ℕ → ℕ} (each : (k : �
   search (suc left) k e good =
       by-first (each k)
       (λ w. search left (k + 1) (omega arith) (below-more (λ (j : ℕ). When j 0) k good w))
-      (λ n w some. (n, fault k (omega arith) good w some))
+      (λ n w some. (n, fault k (record { inside = omega arith; earlier = good; here = w; some = some })))
 
   pub first-exactly : Exactly (firstOf numbers 0 len) (FirstWhen When len)
   first-exactly = exactly first-given (search len 0 (omega arith) (λ j b. absurd (omega arith)))

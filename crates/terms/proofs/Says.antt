@@ -1,9 +1,8 @@
--- An answer says the number and the value that it was given, with zeros beside a refusal: once for every enum whose `numberOf` and
+-- An answer says the refusal and the value that it was given, with zeros beside a refusal: once for every enum whose `refusalOf` and
 -- `valueOf` read its two cases so. Assumes nothing.
-use mathlib.Core.Path.{_≡_, refl}
-use Prim.Native.Nat.{ℕ, zero, suc}
-use lib.IntN.{ℤ, pos}
-use Rattle.terms.specs.declared.quantity.Millivolt.{Millivolt}
+use mathlib.Core.Path.{_≡_, refl, sym, _∙_, ap}
+use Prim.Native.Nat.{ℕ}
+use lib.IntN.{pos}
 use Rattle.terms.specs.declared.refusal.Refusal.{Refusal}
 use Rattle.terms.specs.declared.code.Code.the-variants.{Value as Code, Refused as No-code}
 use Rattle.terms.specs.declared.reading.Reading.the-variants.{Value as Reading, Refused as No-reading}
@@ -11,44 +10,57 @@ use Rattle.terms.specs.declared.voltage.Voltage.the-variants.{Value as V
 use Rattle.terms.specs.Code as code
 use Rattle.terms.specs.Reading as reading
 use Rattle.terms.specs.Voltage as voltage
-use Rattle.terms.specs.Refusal.{answered, outcomeOf, numberOf}
+use Rattle.terms.specs.Refusal.{plain, told, answered, outcomeTold, outcomeOf, refusalOf}
 use Rattle.terms.specs.Says.{Says}
+use Rattle.terms.proofs.Order.{zero-or}
+use Rattle.terms.proofs.Refusals.{byNumber-good, byNumber-refused}
 
--- an enum's case with values and its refusal, beside their number and value in document 01
-pub record Paper {A B : Type 0} (number : A → ℕ) (value : A → B) (zeros : B) (good : B → A) (refused : Refusal → A) : Type 0 where
-  pub good-number : (v : B) → number (good v) ≡ 0
+-- an enum's case with values and its refusal, beside their refusal and value in document 01
+pub record Paper {A B : Type 0} (refusal : A → Refusal) (value : A → B) (zeros : B) (good : B → A) (refused : Refusal → A) : Type 0 where
+  pub good-refusal : (v : B) → refusal (good v) ≡ plain 0
   pub good-value : (v : B) → value (good v) ≡ v
-  pub refused-number : (r : Refusal) → number (refused r) ≡ r .number
+  pub refused-refusal : (r : Refusal) → refusal (refused r) ≡ r
   pub refused-value : (r : Refusal) → value (refused r) ≡ zeros
 
-module _ {A B : Type 0} {number : A → ℕ} {value : A → B} {zeros : B} {good : B → A} {refused : Refusal → A}
-    (paper : Paper number value zeros good refused) where
-  pub says : (n : ℕ) (v : B) → Says number value zeros (answered n (good v) refused) n v
-  says zero v = record { number-is = paper .good-number v; value-is = paper .good-value v }
-  says (suc n) v = record { number-is = paper .refused-number _; value-is = paper .refused-value _ }
+-- of a refusal that tells nothing where its number is 0
+module _ {A B : Type 0} {refusal : A → Refusal} {value : A → B} {zeros : B} {good : B → A} {refused : Refusal → A}
+    (paper : Paper refusal value zeros good refused) where
+  pub told-says : (why : Refusal) → (why .number ≡ 0 → why ≡ plain 0) → (v : B)
+      → Says refusal value zeros (told why (good v) refused) why v
+  told-says why none v =
+      zero-or (why .number)
+      (λ e.
+      record {
+        refusal-is = ap refusal (byNumber-good _ _ _ e) ∙ paper .good-refusal v ∙ sym (none e);
+        value-is = ap value (byNumber-good _ _ _ e) ∙ paper .good-value v ∙ sym (byNumber-good _ _ _ e);
+      })
+      (λ h.
+      record {
+        refusal-is = ap refusal (byNumber-refused _ _ _ h) ∙ paper .refused-refusal why;
+        value-is = ap value (byNumber-refused _ _ _ h) ∙ paper .refused-value why ∙ sym (byNumber-refused _ _ _ h);
+      })
+
+  pub says : (n : ℕ) (v : B) → Says refusal value zeros (answered n (good v) refused) (plain n) v
+  says n v = told-says (plain n) (λ e. ap plain e) v
 
 -- an outcome has no values
-pub outcome-says : (n : ℕ) → numberOf (outcomeOf n) ≡ n
-outcome-says zero = refl
-outcome-says (suc n) = refl
+pub outcome-told : (why : Refusal) → (why .number ≡ 0 → why ≡ plain 0) → refusalOf (outcomeTold why) ≡ why
+outcome-told why none =
+    zero-or (why .number)
+    (λ e. ap refusalOf (byNumber-good _ _ _ e) ∙ sym (none e))
+    (λ h. ap refusalOf (byNumber-refused _ _ _ h))
 
-voltage-paper : Paper voltage.numberOf voltage.valueOf (record { 0 = 0 }) Voltage No-voltage
+pub outcome-says : (n : ℕ) → refusalOf (outcomeOf n) ≡ plain n
+outcome-says n = outcome-told (plain n) (λ e. ap plain e)
+
+pub voltage-paper : Paper voltage.refusalOf voltage.valueOf (record { 0 = 0 }) Voltage No-voltage
 voltage-paper =
-    record { good-number = λ v. refl; good-value = λ v. refl; refused-number = λ r. refl; refused-value = λ r. refl }
+    record { good-refusal = λ v. refl; good-value = λ v. refl; refused-refusal = λ r. refl; refused-value = λ r. refl }
 
-pub voltage-says : (n : ℕ) (v : Millivolt) → Says voltage.numberOf voltage.valueOf (record { 0 = 0 }) (answered n (Voltage v) No-voltage) n v
-voltage-says = says voltage-paper
-
-code-paper : Paper code.numberOf code.valueOf 0 Code No-code
+pub code-paper : Paper code.refusalOf code.valueOf 0 Code No-code
 code-paper =
-    record { good-number = λ v. refl; good-value = λ v. refl; refused-number = λ r. refl; refused-value = λ r. refl }
+    record { good-refusal = λ v. refl; good-value = λ v. refl; refused-refusal = λ r. refl; refused-value = λ r. refl }
 
-pub code-says : (n : ℕ) (v : ℕ) → Says code.numberOf code.valueOf 0 (answered n (Code v) No-code) n v
-code-says = says code-paper
-
-reading-paper : Paper reading.numberOf reading.valueOf (pos 0) Reading No-reading
+pub reading-paper : Paper reading.refusalOf reading.valueOf (pos 0) Reading No-reading
 reading-paper =
-    record { good-number = λ v. refl; good-value = λ v. refl; refused-number = λ r. refl; refused-value = λ r. refl }
-
-pub reading-says : (n : ℕ) (v : ℤ) → Says reading.numberOf reading.valueOf (pos 0) (answered n (Reading v) No-reading) n v
-reading-says = says reading-paper
+    record { good-refusal = λ v. refl; good-value = λ v. refl; refused-refusal = λ r. refl; refused-value = λ r. refl }

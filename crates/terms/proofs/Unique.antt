@@ -6,6 +6,7 @@ use Rattle.terms.proofs.bytes.u32_of.Reads as u32-of
 use Rattle.terms.proofs.chip.numbered.Reads as numbered
 use Rattle.terms.proofs.c6_version.rtc_calib_version.Reads as rtc-calib-version
 use Rattle.terms.proofs.refusal.outcome_of.Reads as outcome-of
+use Rattle.terms.proofs.refusal.plain.Reads as plain
 use Rattle.terms.proofs.refusal.raw_refusal.Reads as raw-refusal
 use Rattle.terms.proofs.refusal.unit_refusal.Reads as unit-refusal
 
@@ -17,6 +18,9 @@ u32-of-one κs a z z′ e e′ p q = p ∙ sym q
 
 pub rtc-calib-version-one : OneAnswer (λ κs z e. z) rtc-calib-version.Post
 rtc-calib-version-one κs a z z′ e e′ p q = p ∙ sym q
+
+pub plain-one : OneAnswer (λ κs z e. z) plain.Post
+plain-one κs a z z′ e e′ p q = p ∙ sym q
 
 pub outcome-of-one : OneAnswer (λ κs z e. z) outcome-of.Post
 outcome-of-one κs a z z′ e e′ p q = p ∙ sym q

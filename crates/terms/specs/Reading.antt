@@ -1,12 +1,13 @@
--- Document 01's number and value of a reading with its sign, zeros beside a refusal.
-use Prim.Native.Nat.{ℕ}
+-- The refusal and document 01's value of a reading with its sign: plain 0 beside a value, zeros beside a refusal.
 use lib.IntN.{ℤ, pos}
+use Rattle.terms.specs.declared.refusal.Refusal.{Refusal}
 use Rattle.terms.specs.declared.reading.Reading.{Reading}
 use Rattle.terms.specs.declared.reading.Reading.the-variants.{Value, Refused}
+use Rattle.terms.specs.Refusal.{plain}
 
-abbrev pub numberOf : Reading → ℕ
-numberOf (Value v) = 0
-numberOf (Refused r) = r .number
+abbrev pub refusalOf : Reading → Refusal
+refusalOf (Value v) = plain 0
+refusalOf (Refused r) = r
 
 abbrev pub valueOf : Reading → ℤ
 valueOf (Value v) = v

@@ -13,7 +13,13 @@ pub data RawWhen (raw : ℕ) : ℕ → Type 0 where
   bad-raw : 4095 < raw → RawWhen raw 8
   good-raw : raw ≤ 4095 → RawWhen raw 0
 
--- "records first to last": the number of the first that has a fault, all before it good; `When k` is when record k gives a number
+-- "records first to last": record k is the first that has a fault, and its number is n; `When k` is when record k gives a number
+pub record FirstFault (When : ℕ → ℕ → Type 0) (len n k : ℕ) : Type 0 where
+  pub inside : k < len
+  pub earlier : (j : ℕ) → j < k → When j 0
+  pub here : When k n
+  pub some : n ≡ 0 → ⊥
+
 pub data FirstWhen (When : ℕ → ℕ → Type 0) (len : ℕ) : ℕ → Type 0 where
-  fault : {n : ℕ} (k : ℕ) → k < len → ((j : ℕ) → j < k → When j 0) → When k n → (n ≡ 0 → ⊥) → FirstWhen When len n
+  fault : {n : ℕ} (k : ℕ) → FirstFault When len n k → FirstWhen When len n
   no-fault : ((k : ℕ) → k < len → When k 0) → FirstWhen When len 0

@@ -6,20 +6,20 @@ use Rattle.capi.proofs.answer.code_c.Tie as tie
 enum-known-answer : tie.Need-enum-known-answer
 enum-known-answer c = search needs
 
-with-code-requires : tie.Need-with-code-requires
-with-code-requires c κs = search needs
+plain-c-requires : tie.Need-plain-c-requires
+plain-c-requires c κs = search needs
 
 enum-known-answer-2 : tie.Need-enum-known-answer-2
 enum-known-answer-2 c = search needs
 
-with-code-requires-2 : tie.Need-with-code-requires-2
-with-code-requires-2 c κs = search needs
+refusal-c-requires : tie.Need-refusal-c-requires
+refusal-c-requires c κs = search needs
 
 returns : tie.Need-returns
-returns c = rw (c .before .before .answer .given .1) (c .with-code .ensures)
+returns c = rw (c .before .before .answer .given .1) (rw (c .plain-c .ensures))
 
 returns-2 : tie.Need-returns-2
-returns-2 c = rw (c .before .before .answer2 .given .1) (c .with-code2 .ensures)
+returns-2 c = rw (c .before .before .answer2 .given .1) (rw (c .refusal-c .ensures))
 
 pub code-c-spec : {M : Type 1} → statement M
-code-c-spec = tie.close (tie.spec enum-known-answer with-code-requires enum-known-answer-2 with-code-requires-2 returns returns-2)
+code-c-spec = tie.close (tie.spec enum-known-answer plain-c-requires enum-known-answer-2 refusal-c-requires returns returns-2)

@@ -23,8 +23,8 @@ check-map-requires-3 c κs = search needs
 outcome-c-requires-3 : tie.Need-outcome-c-requires-3
 outcome-c-requires-3 c κs = search needs
 
-refusal-c-requires : tie.Need-refusal-c-requires
-refusal-c-requires c κs = search needs
+plain-c-requires : tie.Need-plain-c-requires
+plain-c-requires c κs = search needs
 
 returns : tie.Need-returns
 returns c = c .outcome-c .ensures ∙ rw (c .before .check-map .ensures, c .before .before .match .keys1, map-esp32)
@@ -38,7 +38,7 @@ returns-3 c = c .outcome-c3 .ensures ∙ rw (c .before .check-map3 .ensures, c .
 returns-4 : tie.Need-returns-4
 returns-4 c =
     let none = c .before .match .rest in
-    rw (c .refusal-c .ensures, map-none _ _ _ (none .0 .0 .1) (none .0 .1) (none .1))
+    rw (c .plain-c .ensures, map-none _ _ _ (none .0 .0 .1) (none .0 .1) (none .1))
 
 pub skv-check-map-spec : {M : Type 1} → statement M
-skv-check-map-spec = tie.close (tie.spec check-map-requires outcome-c-requires check-map-requires-2 outcome-c-requires-2 check-map-requires-3 outcome-c-requires-3 refusal-c-requires returns returns-2 returns-3 returns-4)
+skv-check-map-spec = tie.close (tie.spec check-map-requires outcome-c-requires check-map-requires-2 outcome-c-requires-2 check-map-requires-3 outcome-c-requires-3 plain-c-requires returns returns-2 returns-3 returns-4)

@@ -9,17 +9,17 @@ use Rattle.capi_fields.proofs.view.skv_view.Tie as tie
 view-refusal-requires : tie.Need-view-refusal-requires
 view-refusal-requires c κs = search needs
 
-refusal-c-requires : tie.Need-refusal-c-requires
-refusal-c-requires c κs = search needs
+plain-c-requires : tie.Need-plain-c-requires
+plain-c-requires c κs = search needs
 
 returns : tie.Need-returns
 returns c =
     let number = c .before .before .view-refusal .ensures in
     let some = c .before .if1 .taken in
-    (rw (c .refusal-c .ensures) (place-refused _ _ _ _ number some), view-none _ _ _ _ _ (λ e. some (number ∙ e)))
+    (rw (c .plain-c .ensures) (place-refused _ _ _ _ number some), view-none _ _ _ _ _ (λ e. some (number ∙ e)))
 
-refusal-c-requires-2 : tie.Need-refusal-c-requires-2
-refusal-c-requires-2 c κs = search needs
+plain-c-requires-2 : tie.Need-plain-c-requires-2
+plain-c-requires-2 c κs = search needs
 
 mul-t10 : tie.Need-mul-t10
 mul-t10 c = search needs
@@ -27,7 +27,7 @@ mul-t10 c = search needs
 returns-2 : tie.Need-returns-2
 returns-2 c =
     let good = sym (c .before .before .view-refusal .ensures) ∙ c .before .if1 .left in
-    (rw (c .refusal-c2 .ensures) (place-good _ _ _ _ good), view-part _ _ _ _ _ good)
+    (rw (c .plain-c2 .ensures) (place-good _ _ _ _ good), view-part _ _ _ _ _ good)
 
 pub skv-view-spec : {M : Type 1} → statement M
-skv-view-spec = tie.close (tie.spec view-refusal-requires refusal-c-requires returns refusal-c-requires-2 mul-t10 returns-2)
+skv-view-spec = tie.close (tie.spec view-refusal-requires plain-c-requires returns plain-c-requires-2 mul-t10 returns-2)

@@ -9,23 +9,23 @@ enum-known-decoded c = search needs
 enum-told : tie.Need-enum-told
 enum-told c = search needs
 
-number-of-requires : tie.Need-number-of-requires
-number-of-requires c κs = search needs
+refusal-of-requires : tie.Need-refusal-of-requires
+refusal-of-requires c κs = search needs
 
 refusal-c-requires : tie.Need-refusal-c-requires
 refusal-c-requires c κs = search needs
 
 returns : tie.Need-returns
-returns c = rw (c .refusal-c .ensures, c .before .number-of .ensures, c .before .before .enum-told .given .1)
+returns c = rw (c .refusal-c .ensures, c .before .refusal-of .ensures, c .before .before .enum-told .given .1)
 
-refusal-c-requires-2 : tie.Need-refusal-c-requires-2
-refusal-c-requires-2 c κs = search needs
+plain-c-requires : tie.Need-plain-c-requires
+plain-c-requires c κs = search needs
 
 record-c-requires : tie.Need-record-c-requires
 record-c-requires c κs = search needs
 
 returns-2 : tie.Need-returns-2
-returns-2 c = rw (c .before .before .before .decoded .given .1, c .before .refusal-c2 .ensures, c .record-c .ensures)
+returns-2 c = rw (c .before .before .before .decoded .given .1, c .before .plain-c .ensures, c .record-c .ensures)
 
 pub decoded-c-spec : {M : Type 1} → statement M
-decoded-c-spec = tie.close (tie.spec enum-known-decoded enum-told number-of-requires refusal-c-requires returns refusal-c-requires-2 record-c-requires returns-2)
+decoded-c-spec = tie.close (tie.spec enum-known-decoded enum-told refusal-of-requires refusal-c-requires returns plain-c-requires record-c-requires returns-2)

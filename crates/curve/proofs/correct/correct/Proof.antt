@@ -14,19 +14,30 @@ good c = sym (c .before .unit-refusal .ensures) ∙ c .if1 .left
 unit-refusal-requires : tie.Need-unit-refusal-requires
 unit-refusal-requires c κs = search needs
 
+plain-requires : tie.Need-plain-requires
+plain-requires c κs = search needs
+
 returns : tie.Need-returns
-returns c = correct-unit _ _ _ _ (c .before .unit-refusal .ensures) (c .if1 .taken)
+returns c = correct-unit _ _ _ _ (c .plain .ensures) (c .before .before .unit-refusal .ensures) (c .before .if1 .taken)
 
 table-of-requires : tie.Need-table-of-requires
 table-of-requires c κs = search needs
 
+plain-requires-2 : tie.Need-plain-requires-2
+plain-requires-2 c κs = search needs
+
 returns-2 : tie.Need-returns-2
-returns-2 c = correct-none _ _ _ _ (good (c .before .before)) _ (c .before .table-of .ensures) (c .if2 .taken)
+returns-2 c =
+    let p = c .before .before in
+    correct-none _ _ _ _ (good (p .before)) _ (p .table-of .ensures) (c .plain2 .ensures) (c .before .if2 .taken)
+
+plain-requires-3 : tie.Need-plain-requires-3
+plain-requires-3 c κs = search needs
 
 returns-3 : tie.Need-returns-3
 returns-3 c =
-    let p = c .before .before in
-    correct-above _ _ _ _ (good (p .before)) _ (p .table-of .ensures) (c .before .if2 .left) (c .if3 .taken)
+    let p = c .before .before .before in
+    correct-above _ _ _ _ (good (p .before)) _ (p .table-of .ensures) (c .plain3 .ensures) (c .before .before .if2 .left) (c .before .if3 .taken)
 
 less-error-requires : tie.Need-less-error-requires
 less-error-requires c κs = search needs
@@ -42,9 +53,12 @@ correct-spec =
     tie.close
     (tie.spec
     unit-refusal-requires
+    plain-requires
     returns
     table-of-requires
+    plain-requires-2
     returns-2
+    plain-requires-3
     returns-3
     less-error-requires
     returns-4)

@@ -5,23 +5,24 @@ use denote.Ref.{now}
 use borrow.Author.Needs.{needs}
 use Rattle.terms.specs.declared.chip.MapChip.the-variants.{Esp32}
 use Rattle.dumps.specs.Dump.{eight}
+use Rattle.maps.proofs.Told.{told-is-number}
 use Rattle.inputs.specs.Input.{decodingRefusal}
 use Rattle.inputs.proofs.Inputs.{decoding-good}
 use Rattle.esp32.specs.Decode.{foundOf, decodedRecord, decodeRefusal}
 use Rattle.esp32.proofs.Sources.{vref-fits, source-in-bits}
-use Rattle.esp32.proofs.Decoding.{decode-input, decode-source, decode-refused, decode-record}
+use Rattle.esp32.proofs.Decoding.{decode-source, decode-passed-on, decode-nine, decode-refused, decode-record}
 use Rattle.esp32.proofs.decode.decode.Statement.{statement}
 use Rattle.esp32.proofs.decode.decode.Tie as tie
 
 -- past the first test nothing handed in is refused
 accepted : (c : tie.Else1)
-    → let a = c .before .before .before .before .args in
+    → let a = c .before .before .before .before .before .args in
     decodingRefusal eight Esp32 (now (a .dump)) (now (a .map)) (a .unit) (a .atten) ≡ 0
-accepted c = sym (c .before .decoding-refusal .ensures) ∙ c .if1 .left
+accepted c = sym (told-is-number _ _ _ (c .before .before .decoding-refusal .ensures)) ∙ c .if1 .left
 
 -- so that the source's number is the decoding's
 number : (c : tie.After-source-refusal)
-    → let a = c .before .before .before .before .before .before .args in
+    → let a = c .before .before .before .before .before .before .before .args in
     c .source-refusal .result ≡ decodeRefusal eight (now (a .dump)) (now (a .map)) (a .unit) (a .atten)
 number c = decode-source _ _ _ _ _ (accepted (c .before .before)) (c .before .source .ensures) (c .source-refusal .ensures)
 
@@ -30,7 +31,9 @@ decoding-refusal-requires c κs = search needs
 
 returns : tie.Need-returns
 returns c =
-    decode-refused _ _ _ _ _ (decode-input _ _ _ _ _ (c .before .decoding-refusal .ensures) (c .if1 .taken)) (c .if1 .taken)
+    decode-refused _ _ _ _ _
+    (decode-passed-on _ _ _ _ _ (c .before .before .decoding-refusal .ensures) (c .if1 .taken))
+    (c .if1 .taken)
 
 source-requires : tie.Need-source-requires
 source-requires c κs = decoding-good _ _ _ _ _ _ (accepted c) .0
@@ -40,8 +43,15 @@ source-refusal-requires c κs =
     let good = decoding-good _ _ _ _ _ _ (accepted (c .before)) in
     rw (c .source .ensures) (good .1 .0, good .1 .1, source-in-bits _ _ _ (good .0) _)
 
+plain-requires : tie.Need-plain-requires
+plain-requires c κs = search needs
+
 returns-2 : tie.Need-returns-2
-returns-2 c = decode-refused _ _ _ _ _ (number (c .before)) (c .if2 .taken)
+returns-2 c =
+    let n = c .before .before in
+    decode-refused _ _ _ _ _
+    (decode-nine _ _ _ _ _ (accepted (n .before .before)) (n .before .source .ensures) (n .source-refusal .ensures) (c .plain .ensures))
+    (rw (c .plain .ensures) (c .before .if2 .taken))
 
 find-requires : tie.Need-find-requires
 find-requires c κs = (sym (number (c .before)) ∙ c .if2 .left, c .before .before .source .ensures)
@@ -65,6 +75,7 @@ decode-spec =
     returns
     source-requires
     source-refusal-requires
+    plain-requires
     returns-2
     find-requires
     record-from-requires

@@ -9,7 +9,8 @@ use mir.ValLaws.{toZ-ofZ}
 use denote.Ref.{now}
 use borrow.Author.Needs.{needs, sfits-of}
 use Rattle.terms.specs.declared.chip.MapChip.the-variants.{C6}
-use Rattle.terms.proofs.Refusals.{answered-good, answered-refused}
+use Rattle.terms.proofs.Refusals.{told-refused}
+use Rattle.maps.proofs.Told.{told-is-number, map-good}
 use Rattle.dumps.specs.Dump.{eight}
 use Rattle.inputs.specs.Input.{fieldsRefusal}
 use Rattle.maps.specs.Value.{valueById}
@@ -26,7 +27,7 @@ decoding-refusal-requires c κs = search needs
 
 returns : tie.Need-returns
 unfolding chanCompensOf
-returns c = answered-refused _ _ Refused (c .before .decoding-refusal .ensures) (c .if1 .taken)
+returns c = told-refused _ _ Refused (c .before .before .decoding-refusal .ensures) (c .if1 .taken)
 
 field-channel-requires : tie.Need-field-channel-requires
 field-channel-requires c κs = search needs
@@ -38,16 +39,16 @@ add-record-value : tie.Need-add-record-value
 add-record-value c = search needs
 
 module _ (c : tie.Else1) where
-  good : let a = c .before .before .before .before .args in
+  good : let a = c .before .before .before .before .before .args in
       (fieldsRefusal eight C6 (now (a .dump)) (now (a .map)) ≡ 0) × ((a .unit ≤ 1) × (a .atten ≤ 3))
-  good = decoding-good _ _ _ _ _ _ (sym (c .before .decoding-refusal .ensures) ∙ c .if1 .left)
+  good = decoding-good _ _ _ _ _ _ (sym (told-is-number _ _ _ (c .before .before .decoding-refusal .ensures)) ∙ c .if1 .left)
 
 record-value-requires : tie.Need-record-value-requires
 record-value-requires c κs = search needs
 
 -- the field that was read
 chan-diff : (c : tie.After-record-value)
-    → let a = c .before .before .before .before .before .before .args in
+    → let a = c .before .before .before .before .before .before .before .args in
     c .record-value .result ≡ valueById C6 (now (a .dump)) (now (a .map)) (17 + min (a .channel) 6)
 chan-diff c =
     let g = good (c .before .before) in
@@ -63,7 +64,7 @@ returns-2 : tie.Need-returns-2
 unfolding chanCompensOf
 returns-2 c =
     let p = c .before .before .before in
-    answered-good _ _ Refused (sym (p .before .decoding-refusal .ensures) ∙ p .if1 .left)
+    map-good _ _ _ _ Refused (sym (told-is-number _ _ _ (p .before .before .decoding-refusal .ensures)) ∙ p .if1 .left)
     (ap Value
     (toZ-ofZ w32 _ (sfits-of (c .chan-compens .ok)) ∙ c .chan-compens .ensures ∙ ap (compensOf _) (chan-diff (c .before))))
 

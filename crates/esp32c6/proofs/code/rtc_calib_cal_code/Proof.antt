@@ -7,7 +7,8 @@ use lib.IntN.{ℤ, natAbs}
 use denote.Ref.{now}
 use borrow.Author.Needs.{needs}
 use Rattle.terms.specs.declared.chip.MapChip.the-variants.{C6}
-use Rattle.terms.proofs.Refusals.{answered-good, answered-refused}
+use Rattle.terms.proofs.Refusals.{told-refused}
+use Rattle.maps.proofs.Told.{told-is-number, map-good}
 use Rattle.dumps.specs.Dump.{eight}
 use Rattle.inputs.specs.Input.{fieldsRefusal}
 use Rattle.maps.specs.Value.{valueById}
@@ -24,12 +25,12 @@ code-refusal-requires c κs = search needs
 
 returns : tie.Need-returns
 unfolding calCodeOf
-returns c = answered-refused _ _ Refused (c .before .code-refusal .ensures) (c .if1 .taken)
+returns c = told-refused _ _ Refused (c .before .before .code-refusal .ensures) (c .if1 .taken)
 
 module _ (c : tie.Else1) where
-  good : let a = c .before .before .before .before .args in
+  good : let a = c .before .before .before .before .before .args in
       (fieldsRefusal eight C6 (now (a .dump)) (now (a .map)) ≡ 0) × (a .atten ≤ 3)
-  good = code-good _ _ _ _ _ _ (sym (c .before .code-refusal .ensures) ∙ c .if1 .left)
+  good = code-good _ _ _ _ _ _ (sym (told-is-number _ _ _ (c .before .before .code-refusal .ensures)) ∙ c .if1 .left)
 
 add-record-value : tie.Need-add-record-value
 add-record-value c = search needs
@@ -38,7 +39,7 @@ record-value-requires : tie.Need-record-value-requires
 record-value-requires c κs = search needs
 
 value : (c : tie.After-record-value)
-    → let a = c .before .before .before .before .before .args in
+    → let a = c .before .before .before .before .before .before .args in
     c .record-value .result ≡ valueById C6 (now (a .dump)) (now (a .map)) (13 + a .atten)
 value c = let g = good (c .before) in value-is _ _ _ _ (g .0) _ _ (omega arith) (omega arith) (c .record-value .ensures)
 
@@ -60,7 +61,7 @@ returns-2 c =
     let p = c .before .before .before in
     let code = rw (c .before .chk-offset .ensures, c .before .before .rtc-calib-version .ensures, value p)
     at (c .cal-code .ensures) in
-    answered-good _ _ Refused (sym (p .before .before .code-refusal .ensures) ∙ p .before .if1 .left)
+    map-good _ _ _ _ Refused (sym (told-is-number _ _ _ (p .before .before .before .code-refusal .ensures)) ∙ p .before .if1 .left)
     (ap (λ (z : ℤ). Value (natAbs z)) code)
 
 pub rtc-calib-cal-code-spec : {M : Type 1} → statement M

@@ -4,7 +4,8 @@ use lib.Dec.{lit≤}
 use denote.Ref.{now}
 use borrow.Author.Needs.{needs}
 use Rattle.terms.specs.declared.chip.MapChip.the-variants.{S2}
-use Rattle.terms.proofs.Refusals.{answered-good, answered-refused}
+use Rattle.terms.proofs.Refusals.{told-refused}
+use Rattle.maps.proofs.Told.{told-is-number, map-good}
 use Rattle.dumps.specs.Dump.{eight}
 use Rattle.inputs.specs.Input.{fieldsRefusal}
 use Rattle.maps.specs.Value.{valueById}
@@ -19,16 +20,16 @@ fields-refusal-requires c κs = search needs
 
 returns : tie.Need-returns
 unfolding flashEncryptionOf
-returns c = answered-refused _ _ Refused (c .before .fields-refusal .ensures) (c .if1 .taken)
+returns c = told-refused _ _ Refused (c .before .before .fields-refusal .ensures) (c .if1 .taken)
 
 record-value-requires : tie.Need-record-value-requires
 record-value-requires c κs = search needs
 
 module _ (c : tie.After-record-value) where
-  good : let a = c .before .before .before .before .before .args in fieldsRefusal eight S2 (now (a .dump)) (now (a .map)) ≡ 0
-  good = sym (c .before .before .fields-refusal .ensures) ∙ c .before .if1 .left
+  good : let a = c .before .before .before .before .before .before .args in fieldsRefusal eight S2 (now (a .dump)) (now (a .map)) ≡ 0
+  good = sym (told-is-number _ _ _ (c .before .before .before .fields-refusal .ensures)) ∙ c .before .if1 .left
 
-  count : let a = c .before .before .before .before .before .args in
+  count : let a = c .before .before .before .before .before .before .args in
       c .record-value .result ≡ valueById S2 (now (a .dump)) (now (a .map)) 8
   count = field-is _ _ _ good 1 (lit≤ tt) (c .record-value .ensures)
 
@@ -41,7 +42,7 @@ odd-ones-requires c κs = search needs
 returns-2 : tie.Need-returns-2
 unfolding flashEncryptionOf
 returns-2 c =
-    answered-good _ _ Refused (good (c .before)) (ap Value (c .odd-ones .ensures ∙ ap oddOnes (count (c .before))))
+    map-good _ _ _ _ Refused (good (c .before)) (ap Value (c .odd-ones .ensures ∙ ap oddOnes (count (c .before))))
 
 pub flash-encryption-spec : {M : Type 1} → statement M
 flash-encryption-spec =

@@ -11,8 +11,11 @@ use Rattle.line.proofs.convert.convert.Tie as tie
 convert-refusal-requires : tie.Need-convert-refusal-requires
 convert-refusal-requires c κs = search needs
 
+plain-requires : tie.Need-plain-requires
+plain-requires c κs = search needs
+
 returns : tie.Need-returns
-returns c = convert-refused _ _ (c .before .convert-refusal .ensures) (c .if1 .taken)
+returns c = convert-refused _ _ (c .plain .ensures) (c .before .before .convert-refusal .ensures) (c .before .if1 .taken)
 
 cast-answer : tie.Need-cast-answer
 cast-answer c = search needs
@@ -30,4 +33,4 @@ returns-2 c = convert-voltage _ _ (sym (c .before .before .convert-refusal .ensu
 
 pub convert-spec : {M : Type 1} → statement M
 convert-spec =
-    tie.close (tie.spec convert-refusal-requires returns cast-answer answer-requires cast-mv returns-2)
+    tie.close (tie.spec convert-refusal-requires plain-requires returns cast-answer answer-requires cast-mv returns-2)

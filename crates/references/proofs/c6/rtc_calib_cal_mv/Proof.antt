@@ -10,9 +10,12 @@ use Rattle.references.proofs.c6.rtc_calib_cal_mv.Tie as tie
 unit-refusal-requires : tie.Need-unit-refusal-requires
 unit-refusal-requires c κs = search needs
 
+plain-requires : tie.Need-plain-requires
+plain-requires c κs = search needs
+
 returns : tie.Need-returns
 unfolding calMvOf
-returns c = answered-refused _ _ Refused (c .before .unit-refusal .ensures) (c .if1 .taken)
+returns c = answered-refused _ _ Refused (c .plain .ensures) (c .before .before .unit-refusal .ensures) (c .before .if1 .taken)
 
 rtc-calib-version-requires : tie.Need-rtc-calib-version-requires
 rtc-calib-version-requires c κs = search needs
@@ -34,6 +37,7 @@ rtc-calib-cal-mv-spec =
     tie.close
     (tie.spec
     unit-refusal-requires
+    plain-requires
     returns
     rtc-calib-version-requires
     input-vout-mv-requires

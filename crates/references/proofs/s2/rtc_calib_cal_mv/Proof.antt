@@ -10,9 +10,12 @@ use Rattle.references.proofs.s2.rtc_calib_cal_mv.Tie as tie
 unit-refusal-requires : tie.Need-unit-refusal-requires
 unit-refusal-requires c κs = search needs
 
+plain-requires : tie.Need-plain-requires
+plain-requires c κs = search needs
+
 returns : tie.Need-returns
 unfolding calMvOf
-returns c = answered-refused _ _ Refused (c .before .unit-refusal .ensures) (c .if1 .taken)
+returns c = answered-refused _ _ Refused (c .plain .ensures) (c .before .before .unit-refusal .ensures) (c .before .if1 .taken)
 
 cal-millivolts-requires : tie.Need-cal-millivolts-requires
 cal-millivolts-requires c κs = unit-inside _ _ (sym (c .before .unit-refusal .ensures) ∙ c .if1 .left) .1
@@ -25,4 +28,4 @@ returns-2 c =
 
 pub rtc-calib-cal-mv-spec : {M : Type 1} → statement M
 rtc-calib-cal-mv-spec =
-    tie.close (tie.spec unit-refusal-requires returns cal-millivolts-requires returns-2)
+    tie.close (tie.spec unit-refusal-requires plain-requires returns cal-millivolts-requires returns-2)

@@ -15,9 +15,12 @@ use Rattle.s2_readings.proofs.reading.rtc_calib_reading.Tie as tie
 reading-refusal-requires : tie.Need-reading-refusal-requires
 reading-refusal-requires c κs = search needs
 
+plain-requires : tie.Need-plain-requires
+plain-requires c κs = search needs
+
 returns : tie.Need-returns
 unfolding calibReadingOf
-returns c = answered-refused _ _ Refused (c .before .reading-refusal .ensures) (c .if1 .taken)
+returns c = answered-refused _ _ Refused (c .plain .ensures) (c .before .before .reading-refusal .ensures) (c .before .if1 .taken)
 
 rtc-calib-tag-requires : tie.Need-rtc-calib-tag-requires
 rtc-calib-tag-requires c κs = reading-good _ _ _ (sym (c .before .reading-refusal .ensures) ∙ c .if1 .left) .1
@@ -43,6 +46,7 @@ rtc-calib-reading-spec =
     tie.close
     (tie.spec
     reading-refusal-requires
+    plain-requires
     returns
     rtc-calib-tag-requires
     rtc-calib-parsed-requires

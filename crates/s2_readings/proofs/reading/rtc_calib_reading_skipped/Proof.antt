@@ -17,9 +17,12 @@ use Rattle.s2_readings.proofs.reading.rtc_calib_reading_skipped.Tie as 
 unit-refusal-requires : tie.Need-unit-refusal-requires
 unit-refusal-requires c κs = search needs
 
+plain-requires : tie.Need-plain-requires
+plain-requires c κs = search needs
+
 returns : tie.Need-returns
 unfolding skippedReadingOf
-returns c = answered-refused _ _ Refused (c .before .unit-refusal .ensures) (c .if1 .taken)
+returns c = answered-refused _ _ Refused (c .plain .ensures) (c .before .before .unit-refusal .ensures) (c .before .if1 .taken)
 
 slice-aggregate-rtc-calib-parsed : tie.Need-slice-aggregate-rtc-calib-parsed
 slice-aggregate-rtc-calib-parsed c = search needs
@@ -52,6 +55,7 @@ rtc-calib-reading-skipped-spec =
     tie.close
     (tie.spec
     unit-refusal-requires
+    plain-requires
     returns
     slice-aggregate-rtc-calib-parsed
     rtc-calib-tag-requires

@@ -11,8 +11,11 @@ cast-from c = search needs
 fill-refusal-requires : tie.Need-fill-refusal-requires
 fill-refusal-requires c κs = search needs
 
+plain-requires : tie.Need-plain-requires
+plain-requires c κs = search needs
+
 returns : tie.Need-returns
-returns c = filled-refused _ _ _ (c .before .fill-refusal .ensures) (c .if1 .taken)
+returns c = filled-refused _ _ _ (c .plain .ensures) (c .before .before .fill-refusal .ensures) (c .before .if1 .taken)
 
 fill-answers-requires : tie.Need-fill-answers-requires
 fill-answers-requires c κs = search needs
@@ -28,4 +31,4 @@ returns-2 c =
 pub fill-spec : {M : Type 1} → statement M
 fill-spec =
     tie.close
-    (tie.spec cast-from fill-refusal-requires returns fill-answers-requires same-length returns-2)
+    (tie.spec cast-from fill-refusal-requires plain-requires returns fill-answers-requires same-length returns-2)

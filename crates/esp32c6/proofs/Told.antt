@@ -1,0 +1,43 @@
+-- What the C6's calls tell with their refusals: 12 is of no record, so that those of a record are the map's. Assumes nothing.
+use mathlib.Core.Path.{_≡_, sym}
+use mathlib.Core.Bool.{true, true≢false}
+use mathlib.Core.List.{List}
+use Prim.Native.Nat.{ℕ}
+use Rattle.terms.specs.declared.chip.MapChip.the-variants.{C6}
+use Rattle.terms.specs.Code as code
+use Rattle.terms.specs.Exactly.{Exactly}
+use Rattle.terms.specs.Reading as reading
+use Rattle.maps.specs.Told.{ofRecord, ToldWhen}
+use Rattle.maps.specs.When.{MapWhen}
+use Rattle.maps.proofs.Told.{told-exactly}
+use Rattle.inputs.specs.When.{DecodingWhen}
+use Rattle.inputs.proofs.Told.{decoding-of-map, decoding-told}
+use Rattle.esp32c6.specs.Channel.{chanCompensOf}
+use Rattle.esp32c6.specs.Code.{initCodeOf, calCodeOf}
+use Rattle.esp32c6.specs.When.{CodeWhen, before, bad-version, good-version}
+use Rattle.esp32c6.proofs.Exactly.{code-exactly}
+use Rattle.esp32c6.proofs.Says.{init-code-says, cal-code-says, compens-says}
+
+module _ (words : ℕ → ℕ) (dump map : List ℕ) (minor unit atten : ℕ) where
+  code-of-map : (n : ℕ) → CodeWhen words dump map minor unit atten n → ofRecord n ≡ true → MapWhen words C6 map n
+  code-of-map n (before k some) t = decoding-of-map words C6 dump map unit atten n k t
+  code-of-map n (bad-version k v w) t = absurd (true≢false (sym t))
+  code-of-map n (good-version k v) t = absurd (true≢false (sym t))
+
+  -- `rtc_calib_init_code`
+  pub init-code-told : Exactly (code.refusalOf (initCodeOf words dump map minor unit atten)) (ToldWhen words C6 map (CodeWhen words dump map minor unit atten))
+  init-code-told =
+      rw (init-code-says words dump map minor unit atten .refusal-is)
+      (told-exactly words map C6 (code-exactly words dump map minor unit atten) code-of-map)
+
+  -- `rtc_calib_cal_code`
+  pub cal-code-told : Exactly (code.refusalOf (calCodeOf words dump map minor unit atten)) (ToldWhen words C6 map (CodeWhen words dump map minor unit atten))
+  cal-code-told =
+      rw (cal-code-says words dump map minor unit atten .refusal-is)
+      (told-exactly words map C6 (code-exactly words dump map minor unit atten) code-of-map)
+
+-- `rtc_calib_get_chan_compens`
+pub compens-told : (words : ℕ → ℕ) (dump map : List ℕ) (unit channel atten : ℕ)
+    → Exactly (reading.refusalOf (chanCompensOf words dump map unit channel atten)) (ToldWhen words C6 map (DecodingWhen words C6 dump map unit atten))
+compens-told words dump map unit channel atten =
+    rw (compens-says words dump map unit channel atten .refusal-is) (decoding-told words C6 dump map unit atten)

@@ -1,0 +1,20 @@
+-- What the version and flash encryption tell with their refusals: what the input's check tells. Assumes nothing.
+use mathlib.Core.List.{List}
+use Prim.Native.Nat.{ℕ}
+use Rattle.terms.specs.declared.chip.MapChip.the-variants.{S2}
+use Rattle.terms.specs.Exactly.{Exactly}
+use Rattle.maps.specs.Told.{ToldWhen}
+use Rattle.inputs.specs.When.{FieldsWhen}
+use Rattle.inputs.proofs.Told.{fields-told}
+use Rattle.esp32s2.specs.Encryption as encryption
+use Rattle.esp32s2.specs.Version as version
+use Rattle.esp32s2.proofs.Says.{version-says, encryption-says}
+
+module _ (words : ℕ → ℕ) (dump map : List ℕ) where
+  -- `rtc_calib_version`
+  pub version-told : Exactly (version.refusalOf (version.calibVersionOf words dump map)) (ToldWhen words S2 map (FieldsWhen words S2 dump map))
+  version-told = rw (version-says words dump map .refusal-is) (fields-told words S2 dump map)
+
+  -- `flash_encryption`
+  pub encryption-told : Exactly (encryption.refusalOf (encryption.flashEncryptionOf words dump map)) (ToldWhen words S2 map (FieldsWhen words S2 dump map))
+  encryption-told = rw (encryption-says words dump map .refusal-is) (fields-told words S2 dump map)
