@@ -3,14 +3,16 @@ use crate::fault::Fault;
 use crate::fault::File;
 use crate::fault::fault_of;
 use terms::refusal;
+use terms::refusal::Refusal;
 use words::put::put_decimal;
 use words::put::put_word;
 ghost use Prim.Native.Nat.{_+_, _≤_};
 ghost use lib.ListN.{length};
 ghost use Rattle.io.specs.Counts.{Counts};
 ghost use Rattle.terms.specs.Put.{Put};
+ghost use Rattle.words.specs.Put.{decimal};
 ghost use Rattle.faults.specs.Fault.{faultOf};
-ghost use Rattle.faults.specs.Told.{nameOf, wordsOf, endOf, faultText};
+ghost use Rattle.faults.specs.Told.{nameOf, idOf, placeOf, wrongId, wrongByte, wrongOf, wordsOf, endOf, faultText};
 
 // A word, at a place with room for it.
 fn put(out: &mut [u8], at: usize, word: &[u8]) -> usize
@@ -32,11 +34,85 @@ fn put_name(out: &mut [u8], file: File) -> usize
     }
 }
 
-// Why a file is turned down by a number.
-fn put_words(out: &mut [u8], at: usize, number: u8) -> usize
-    requires { ⌜ at + 96 ≤ length (now out) ⌝ }
-    ensures { λ r. ⌜ Put (now (out .entry)) at (wordsOf number) r (now (out .exit)) × (r ≤ at + 96) ⌝ }
+// A number in decimal, at a place with room for any.
+fn put_number(out: &mut [u8], at: usize, n: u64) -> usize
+    requires { ⌜ at + 20 ≤ length (now out) ⌝ }
+    ensures { λ r. ⌜ Put (now (out .entry)) at (decimal n) r (now (out .exit)) × (r ≤ at + 20) ⌝ }
 {
+    put_decimal(out, at, n)
+}
+
+// The name of the id that a record of an ESP32's map has.
+fn put_id(out: &mut [u8], at: usize, k: u8) -> usize
+    requires { ⌜ at + 17 ≤ length (now out) ⌝ }
+    ensures { λ r. ⌜ Put (now (out .entry)) at (idOf k) r (now (out .exit)) × (r ≤ at + 17) ⌝ }
+{
+    match k {
+        0 => put(out, at, b"ADC_VREF"),
+        1 => put(out, at, b"BLK3_PART_RESERVE"),
+        2 => put(out, at, b"ADC1_TP_LOW"),
+        3 => put(out, at, b"ADC2_TP_LOW"),
+        4 => put(out, at, b"ADC1_TP_HIGH"),
+        _ => put(out, at, b"ADC2_TP_HIGH"),
+    }
+}
+
+// Which record of the map it is.
+fn put_place(out: &mut [u8], at: usize, k: u8) -> usize
+    requires { ⌜ at + 51 ≤ length (now out) ⌝ }
+    ensures { λ r. ⌜ Put (now (out .entry)) at (placeOf k) r (now (out .exit)) × (r ≤ at + 51) ⌝ }
+{
+    let next = put(out, at, b": record ");
+    let next = put_number(out, next, k as u64);
+    let next = put(out, next, b" (");
+    let next = put_id(out, next, k);
+    put(out, next, b"): ")
+}
+
+// A record whose id isn't the one that its place asks for, from 1 on.
+fn put_wrong_id(out: &mut [u8], at: usize, k: u8) -> usize
+    requires { ⌜ at + 33 ≤ length (now out) ⌝ }
+    ensures { λ r. ⌜ Put (now (out .entry)) at (wrongId k) r (now (out .exit)) × (r ≤ at + 33) ⌝ }
+{
+    let next = put(out, at, b"its id isn't ");
+    put_number(out, next, k as u64 + 1)
+}
+
+// A byte that should be zero.
+fn put_wrong_byte(out: &mut [u8], at: usize, place: u8) -> usize
+    requires { ⌜ at + 36 ≤ length (now out) ⌝ }
+    ensures { λ r. ⌜ Put (now (out .entry)) at (wrongByte place) r (now (out .exit)) × (r ≤ at + 36) ⌝ }
+{
+    let next = put(out, at, b"byte ");
+    let next = put_number(out, next, place as u64);
+    put(out, next, b" isn't zero")
+}
+
+// What is wrong with a record of the map.
+fn put_wrong(out: &mut [u8], at: usize, why: Refusal) -> usize
+    requires { ⌜ at + 60 ≤ length (now out) ⌝ }
+    ensures { λ r. ⌜ Put (now (out .entry)) at (wrongOf why) r (now (out .exit)) × (r ≤ at + 60) ⌝ }
+{
+    let number = why.number;
+    match number {
+        3 => put_wrong_id(out, at, why.record),
+        18 => put_wrong_byte(out, at, why.place),
+        4 => put(out, at, b"its block is above 10"),
+        5 => put(
+            out,
+            at,
+            b"its bit start is above 255, or its field ends past bit 255",
+        ),
+        _ => put(out, at, b"its bit count isn't its id's"),
+    }
+}
+
+// Why a file is turned down.
+fn put_words(out: &mut [u8], at: usize, why: Refusal) -> usize
+    requires { ⌜ at + 111 ≤ length (now out) ⌝ }
+    ensures { λ r. ⌜ Put (now (out .entry)) at (wordsOf why) r (now (out .exit)) × (r ≤ at + 111) ⌝ }
+{
+    let number = why.number;
     match number {
         1 => put(out, at, b": a dump has 352 bytes, and this file hasn't"),
         2 => put(
@@ -44,19 +120,10 @@ fn put_words(out: &mut [u8], at: usize, number: u8) -> usize
             at,
             b": an ESP32's map has 48 bytes, and this file hasn't",
         ),
-        3 => put(
-            out,
-            at,
-            b": a record's id isn't its place's, or one of its last three bytes isn't zero",
-        ),
-        4 => put(out, at, b": a record's block is above 10"),
-        5 => put(
-            out,
-            at,
-            b": a record's bit start is above 255, or its field ends past bit 256",
-        ),
-        6 => put(out, at, b": a record's bit count isn't its id's"),
-        _ => put(out, at, b": it is turned down"),
+        _ => {
+            let next = put_place(out, at, why.record);
+            put_wrong(out, next, why)
+        }
     }
 }
 
@@ -85,10 +152,10 @@ fn put_line(out: &mut [u8], file: File, fault: Fault) -> usize
             let next = put(out, next, b": there is no such file, so it counts as empty");
             put_end(out, next, number)
         }
-        Fault::Refused(number) => {
+        Fault::Refused(why) => {
             let next = put_name(out, file);
-            let next = put_words(out, next, number);
-            put_end(out, next, number)
+            let next = put_words(out, next, why);
+            put_end(out, next, why.number)
         }
     }
 }

@@ -1,7 +1,9 @@
--- `faults::put_words` meets its contract: in each arm the number is known, or that it is none of those named. Assumes nothing.
+-- `faults::put_words` meets its contract: in each arm the number is known, or that it is neither; then which record it is comes before
+-- what is wrong with it. Assumes nothing.
 use native.Mathlib.Omega.{arith}
-use borrow.Author.Needs.{needs}
 use borrow.Author.Tests.{ne-eqb}
+use Rattle.terms.proofs.Puts.{put-more}
+use borrow.Author.Needs.{needs}
 use Rattle.faults.proofs.told.put_words.Statement.{statement}
 use Rattle.faults.proofs.told.put_words.Tie as tie
 
@@ -17,35 +19,11 @@ slice-aggregate-put-2 c = search needs
 put-requires-2 : tie.Need-put-requires-2
 put-requires-2 c κs = search needs
 
-slice-aggregate-put-3 : tie.Need-slice-aggregate-put-3
-slice-aggregate-put-3 c = search needs
+put-place-requires : tie.Need-put-place-requires
+put-place-requires c κs = search needs
 
-put-requires-3 : tie.Need-put-requires-3
-put-requires-3 c κs = search needs
-
-slice-aggregate-put-4 : tie.Need-slice-aggregate-put-4
-slice-aggregate-put-4 c = search needs
-
-put-requires-4 : tie.Need-put-requires-4
-put-requires-4 c κs = search needs
-
-slice-aggregate-put-5 : tie.Need-slice-aggregate-put-5
-slice-aggregate-put-5 c = search needs
-
-put-requires-5 : tie.Need-put-requires-5
-put-requires-5 c κs = search needs
-
-slice-aggregate-put-6 : tie.Need-slice-aggregate-put-6
-slice-aggregate-put-6 c = search needs
-
-put-requires-6 : tie.Need-put-requires-6
-put-requires-6 c κs = search needs
-
-slice-aggregate-put-7 : tie.Need-slice-aggregate-put-7
-slice-aggregate-put-7 c = search needs
-
-put-requires-7 : tie.Need-put-requires-7
-put-requires-7 c κs = search needs
+put-wrong-requires : tie.Need-put-wrong-requires
+put-wrong-requires c κs = search needs
 
 same-length : tie.Need-same-length
 same-length c = search needs
@@ -63,34 +41,11 @@ same-length-3 : tie.Need-same-length-3
 same-length-3 c = search needs
 
 returns-3 : tie.Need-returns-3
-returns-3 c = rw (c .before .before .before .before .before .match .keys3) (c .before .before .put3 .ensures, search needs)
-
-same-length-4 : tie.Need-same-length-4
-same-length-4 c = search needs
-
-returns-4 : tie.Need-returns-4
-returns-4 c = rw (c .before .before .before .before .before .match .keys4) (c .before .before .put4 .ensures, search needs)
-
-same-length-5 : tie.Need-same-length-5
-same-length-5 c = search needs
-
-returns-5 : tie.Need-returns-5
-returns-5 c = rw (c .before .before .before .before .before .match .keys5) (c .before .before .put5 .ensures, search needs)
-
-same-length-6 : tie.Need-same-length-6
-same-length-6 c = search needs
-
-returns-6 : tie.Need-returns-6
-returns-6 c = rw (c .before .before .before .before .before .match .keys6) (c .before .before .put6 .ensures, search needs)
-
-same-length-7 : tie.Need-same-length-7
-same-length-7 c = search needs
-
-returns-7 : tie.Need-returns-7
-returns-7 c =
-    let none = c .before .before .before .before .before .match .rest in
-    simp (ne-eqb _ _ (none .0 .0 .0 .0 .0 .1), ne-eqb _ _ (none .0 .0 .0 .0 .1), ne-eqb _ _ (none .0 .0 .0 .1), ne-eqb _ _ (none .0 .0 .1), ne-eqb _ _ (none .0 .1), ne-eqb _ _ (none .1))
-    (c .before .before .put7 .ensures, search needs)
+returns-3 c =
+    let p = c .before .before .before .before .before .before in
+    let none = p .before .before .match .rest in
+    let wrong = c .before .before .put-wrong .ensures in
+    simp (ne-eqb _ _ (none .0 .1), ne-eqb _ _ (none .1)) (put-more (p .put-place .ensures .0) (wrong .0), omega arith)
 
 pub put-words-spec : {M : Type 1} → statement M
 put-words-spec =
@@ -100,27 +55,11 @@ put-words-spec =
     put-requires
     slice-aggregate-put-2
     put-requires-2
-    slice-aggregate-put-3
-    put-requires-3
-    slice-aggregate-put-4
-    put-requires-4
-    slice-aggregate-put-5
-    put-requires-5
-    slice-aggregate-put-6
-    put-requires-6
-    slice-aggregate-put-7
-    put-requires-7
+    put-place-requires
+    put-wrong-requires
     same-length
     returns
     same-length-2
     returns-2
     same-length-3
-    returns-3
-    same-length-4
-    returns-4
-    same-length-5
-    returns-5
-    same-length-6
-    returns-6
-    same-length-7
-    returns-7)
+    returns-3)
