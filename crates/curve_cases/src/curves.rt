@@ -19,7 +19,11 @@ fn correct_answer(case: &[u8], line: u16) -> Answer {
 
 // Whether a line answer has that answer.
 fn same_answer(case: &[u8], line: u16, expected: u16) -> bool {
-    answer::same(correct_answer(case, line), refusal::NONE, expected as i64)
+    answer::same(
+        correct_answer(case, line),
+        refusal::plain(refusal::NONE),
+        expected as i64,
+    )
 }
 
 // An answer and a signed step of one byte. Steps of a table lead from answer to answer, so nothing wraps that shouldn't.
@@ -46,7 +50,7 @@ pub(crate) fn same_table(case: &[u8]) -> bool {
 pub(crate) fn same_single(case: &[u8]) -> bool {
     answer::same(
         correct_answer(case, bytes::number16(case, 4)),
-        bytes::number8(case, 8),
+        refusal::plain(bytes::number8(case, 8)),
         bytes::number16(case, 6) as i64,
     )
 }

@@ -4,6 +4,7 @@ use efuse::field::EfuseField;
 use efuse::field::Read;
 use replay::answer;
 use replay::bytes;
+use terms::refusal;
 use terms::refusal::Outcome;
 
 // What lent bytes hold before a call.
@@ -24,7 +25,7 @@ fn same_read(got: Read, number: u8, value: i64) -> bool {
         Read::Value(value) => answer::good(value as i64),
         Read::Refused(why) => answer::refused(why),
     };
-    answer::same(answer, number, value)
+    answer::same(answer, refusal::plain(number), value)
 }
 
 // Whether a field is read at 8, 16 and 32 bits as the case says.
@@ -56,6 +57,6 @@ pub(crate) fn same_bytes(words: &[u32], case: &[u8]) -> bool {
         &mut room,
         bytes::number8(case, 6) as usize,
     );
-    answer::same_outcome(got, bytes::number8(case, 7))
+    answer::same_outcome(got, refusal::plain(bytes::number8(case, 7)))
         && check::same(&room, bytes::part(case, 8, 40))
 }

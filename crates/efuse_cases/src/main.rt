@@ -21,7 +21,7 @@ fn layout_of(list: List) -> Layout {
             per_dump: 64,
         },
         List::Maps => Layout {
-            case: 8,
+            case: 9,
             per_dump: 0,
         },
     }

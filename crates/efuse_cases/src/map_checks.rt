@@ -1,4 +1,4 @@
-// data/maps: field maps, with the first thing wrong with each. A case starts from one of data/good_maps and changes two of its bytes.
+// data/maps: field maps, with the first thing wrong with each, and in which record. A case starts from one of data/good_maps and changes two of its bytes.
 use maps::map;
 use replay::answer;
 use replay::bytes;
@@ -35,5 +35,5 @@ pub(crate) fn same_map(good_maps: &[u8], case: &[u8]) -> bool {
     put_change(&mut map, bytes::part(case, 4, 2));
     let lent = bytes::part(&map, 0, bytes::number8(case, 1) as usize);
     let got = map::check_map(chip_of(bytes::number8(good, 0)), lent);
-    answer::same_outcome(got, bytes::number8(case, 6))
+    answer::same_outcome(got, answer::told(case, 6, 7))
 }

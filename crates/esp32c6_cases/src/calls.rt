@@ -56,7 +56,7 @@ pub(crate) fn same_call<'a>(
     let dump = replay::lent(words, bytes::number8(case, 10));
     answer::same(
         call_answer(dump, lent_map, case),
-        bytes::number8(case, 16),
+        answer::told(case, 16, 17),
         bytes::signed32(case, 20),
     )
 }

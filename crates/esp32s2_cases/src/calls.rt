@@ -69,7 +69,7 @@ pub(crate) fn same_call<'a>(words: &'a [u32; replay::WORDS], case: &'a [u8; repl
     let dump = replay::lent(words, bytes::number8(case, 17));
     answer::same(
         call_answer(dump, map, case),
-        bytes::number8(case, 23),
+        answer::told(case, 23, 28),
         bytes::signed32(case, 24),
     )
 }

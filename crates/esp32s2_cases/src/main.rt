@@ -4,7 +4,7 @@ mod calls;
 use replay::Layout;
 
 const CALLS: Layout = Layout {
-    case: 28,
+    case: 32,
     per_dump: 64,
 };
 

@@ -34,7 +34,7 @@ fn same_check(record: LineRecord, number: u8) -> bool {
     } else {
         refusal::NONE
     };
-    answer::same_outcome(record::check_record(record), expected)
+    answer::same_outcome(record::check_record(record), refusal::plain(expected))
 }
 
 // Whether a count is converted as the case says.
@@ -42,5 +42,10 @@ pub(crate) fn same_convert(case: &[u8]) -> bool {
     let record = record_of(case);
     let number = bytes::number8(case, 16);
     let got = convert_answer(convert::convert(record, Count(bytes::number16(case, 14))));
-    same_check(record, number) && answer::same(got, number, bytes::number16(case, 18) as i64)
+    same_check(record, number)
+        && answer::same(
+            got,
+            refusal::plain(number),
+            bytes::number16(case, 18) as i64,
+        )
 }

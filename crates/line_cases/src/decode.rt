@@ -1,10 +1,12 @@
 // data/decode: dumps with their maps, and the line records that are decoded of them.
 use esp32::decode;
 use line_record::decoded::Decoded;
-use line_record::decoded::number_of;
+use line_record::decoded::refusal_of;
 use line_record::record::LineRecord;
+use replay::answer;
 use replay::bytes;
 use terms::refusal;
+use terms::refusal::Refusal;
 
 // Whether a record is the case's. It is of the unit that was asked for.
 fn same_record(got: LineRecord, case: &[u8]) -> bool {
@@ -15,10 +17,10 @@ fn same_record(got: LineRecord, case: &[u8]) -> bool {
         && got.coeff_b == bytes::number32(case, 60)
 }
 
-// Whether a decoding is refused as the case says, with its number, and has zeros for a record.
-fn same_refusal(decoded: Decoded, case: &[u8]) -> bool {
+// Whether a decoding is refused as the case says, with all that it tells, and has zeros for a line record.
+fn same_refused(decoded: Decoded, why: Refusal, case: &[u8]) -> bool {
     let none = [0u8; 11];
-    number_of(decoded) == bytes::number8(case, 52) && check::same(bytes::part(case, 53, 11), &none)
+    answer::same_refusal(refusal_of(decoded), why) && check::same(bytes::part(case, 53, 11), &none)
 }
 
 // Whether a record is decoded as the case says, or refused.
@@ -28,8 +30,9 @@ pub(crate) fn same_decode(words: &[u32], case: &[u8]) -> bool {
     let unit = bytes::number8(case, 50);
     let atten = bytes::number8(case, 51);
     let decoded = decode::decode(dump, map, unit, atten);
+    let why = answer::told(case, 52, 64);
     let Decoded::Record(record) = decoded else {
-        return same_refusal(decoded, case);
+        return same_refused(decoded, why, case);
     };
-    bytes::number8(case, 52) == refusal::NONE && same_record(record, case)
+    answer::same_refusal(refusal::plain(refusal::NONE), why) && same_record(record, case)
 }

@@ -32,7 +32,7 @@ fn fill_cut(
     let mut first = 0;
     for _ in 0..stretches {
         let filled = fill_part(record, first, n, table, first);
-        if !answer::same_outcome(filled, refusal::NONE) {
+        if !answer::same_outcome(filled, refusal::plain(refusal::NONE)) {
             return false;
         }
         first = std::num::wrapping_add_u16(first, stride) % 4096;
@@ -99,5 +99,6 @@ pub(crate) fn same_stretch(case: &[u8]) -> bool {
     let number = bytes::number8(case, 18);
     let mut room = [BEFORE; 4104];
     let got = fill_part(record_of(case), bytes::number16(case, 14), n, &mut room, 0);
-    answer::same_outcome(got, number) && same_room(&room, n, number, bytes::number32(case, 20))
+    answer::same_outcome(got, refusal::plain(number))
+        && same_room(&room, n, number, bytes::number32(case, 20))
 }

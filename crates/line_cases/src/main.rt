@@ -15,7 +15,7 @@ enum List {
 fn layout_of(list: List) -> Layout {
     match list {
         List::Decode => Layout {
-            case: 64,
+            case: 68,
             per_dump: 32,
         },
         List::Convert => Layout {

@@ -14,7 +14,7 @@ use Rattle.line_record.specs.declared.record.LineRecord.{LineRecord}
 use Rattle.esp32.specs.Code.{vrefOf, twoPointCode, lowOf, highOf}
 use Rattle.esp32.specs.Characterize.{topOf}
 use Rattle.esp32.specs.Decode.{decodeOf}
-use Rattle.line_record.specs.Decoded.{numberOf as numberDecoded, valueOf as recordDecoded}
+use Rattle.line_record.specs.Decoded.{refusalOf as refusalDecoded, valueOf as recordDecoded}
 use Rattle.line.specs.Convert.{convertOf}
 use Rattle.s2_readings.specs.declared.tag.RtcCalibParam.{RtcCalibParam}
 use Rattle.s2_readings.specs.declared.tag.RtcCalibParam.the-variants.{Vhigh, Vinit}
@@ -71,7 +71,7 @@ abbrev top : ℕ → ℕ → ℕ
 top low high = topOf (lowOf 0 low) (highOf 0 high)
 
 abbrev number : ℕ → ℕ → ℕ → ℕ
-number low high atten = numberDecoded (decodeOf eight (twoPoints low high) mapped 0 atten)
+number low high atten = refusalDecoded (decodeOf eight (twoPoints low high) mapped 0 atten) .number
 
 -- the S2's reading of version 2. Its tags are unit × 4 + attenuation after 17 for the high reading, after 25 for the initial code
 abbrev reading : List ℕ → ℕ → ℕ → RtcCalibParam → ℤ

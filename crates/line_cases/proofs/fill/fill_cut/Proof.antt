@@ -16,6 +16,9 @@ loop-holds c = search needs
 fill-part-requires : tie.Need-fill-part-requires Inv-loop μ-loop
 fill-part-requires c κs = search needs
 
+plain-requires : tie.Need-plain-requires Inv-loop μ-loop
+plain-requires c κs = search needs
+
 same-outcome-requires : tie.Need-same-outcome-requires Inv-loop μ-loop
 same-outcome-requires c κs = search needs
 
@@ -45,6 +48,7 @@ fill-cut-spec =
     μ-loop
     loop-holds
     fill-part-requires
+    plain-requires
     same-outcome-requires
     returns
     wrapping-add-u16-requires
