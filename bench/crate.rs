@@ -10,7 +10,7 @@ use oracle::rules;
 use suongkivat::raw::{SkvDecoded, SkvOutcome, SkvRead, SkvRefusal, SkvVoltage};
 use suongkivat::{Count, Field, LineRecord, Millivolt, Unit};
 
-const NONE: SkvRefusal = SkvRefusal { number: 0 };
+const NONE: SkvRefusal = SkvRefusal { number: 0, record: 0, place: 0 };
 
 /// What has to be done before fields are read: esp-hal's dump is one memory, and so is a C6's version.
 #[no_mangle]
@@ -81,7 +81,7 @@ pub extern "C" fn skv_convert(cal: LineRecord, count: Count) -> SkvVoltage {
 pub extern "C" fn tested_convert(cal: LineRecord, count: Count) -> SkvVoltage {
     match rules::record(record(cal)).and_then(|()| rules::raw(count.0)) {
         Ok(()) => skv_convert(cal, count),
-        Err(number) => SkvVoltage { refusal: SkvRefusal { number }, voltage: Millivolt(0) },
+        Err(refusal) => SkvVoltage { refusal: SkvRefusal { number: refusal.number, ..NONE }, voltage: Millivolt(0) },
     }
 }
 

@@ -28,7 +28,7 @@ const BEATEN: f64 = 0.99;
 /// Bars against esp-hal's three builds: for release, the same with overflow checks, and for release with fat LTO.
 type Bars = [Option<f64>; 3];
 
-const NONE: SkvRefusal = SkvRefusal { number: 0 };
+const NONE: SkvRefusal = SkvRefusal { number: 0, record: 0, place: 0 };
 const NO_READ: SkvRead = SkvRead { refusal: NONE, value: 0 };
 const NO_VOLTAGE: SkvVoltage = SkvVoltage { refusal: NONE, voltage: Millivolt(0) };
 const NO_RECORD: LineRecord = LineRecord { coeff_a: 0, coeff_b: 0, vref: 0, unit: Unit(0), use_lut: 0 };

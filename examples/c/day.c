@@ -41,6 +41,24 @@ static void print_answer(SkvVoltage answer)
         printf("refused %u\n", answer.refusal.number);
 }
 
+/* Why there is no record, and which record of the map is bad, where it is one. */
+static void print_undecoded(SkvRefusal refusal)
+{
+    printf("refused %u", refusal.number);
+    switch (refusal.number) {
+    case SKV_MAP_ID:
+    case SKV_BLOCK:
+    case SKV_BIT_RANGE:
+    case SKV_BIT_COUNT:
+        printf(": map record %u", refusal.record);
+        break;
+    case SKV_MAP_BYTE:
+        printf(": map record %u, byte %u", refusal.record, refusal.place);
+        break;
+    }
+    printf("\n");
+}
+
 /* A board's record for a unit and an attenuation, and what it makes of a few counts. */
 static void print_record(char board, const Dump *dump, const uint8_t *map, size_t map_len, uint8_t unit, uint8_t atten)
 {
@@ -49,7 +67,7 @@ static void print_record(char board, const Dump *dump, const uint8_t *map, size_
     const SkvLineRecord cal = decoded.record;
     printf("record %c, unit %u, attenuation %u: ", board, unit, atten);
     if (decoded.refusal.number != SKV_NONE) {
-        printf("refused %u\n", decoded.refusal.number);
+        print_undecoded(decoded.refusal);
         return;
     }
     printf("a %u, b %u, Vref %u, lookup %u\n", cal.coeff_a, cal.coeff_b, cal.vref, cal.use_lut);

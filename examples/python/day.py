@@ -13,13 +13,20 @@ def load(name):
     return path.read_bytes() if path.exists() else b""
 
 
+def undecoded(refused):
+    """Why there is no record, and which record of the map is bad, where it is one; str(refused) has it in words, with what to do."""
+    record = "" if refused.record is None else f": map record {refused.record}"
+    byte = "" if refused.place is None else f", byte {refused.place}"
+    return f"refused {refused.number}{record}{byte}"
+
+
 def print_record(name, board, unit, attenuation):
     """A board's record for a unit and an attenuation, and what it makes of a few counts."""
     what = f"record {name}, unit {unit}, attenuation {attenuation}:"
     try:
         record = board.record(unit, attenuation)
     except suongkivat.Refused as refused:
-        print(what, f"refused {refused.number}")
+        print(what, undecoded(refused))
         return
     print(what, f"a {record.coeff_a}, b {record.coeff_b}, Vref {record.vref}, lookup {record.use_lut:d}")
     for count in 0, 2880, 2912, 4095, 4096:

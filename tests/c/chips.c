@@ -15,7 +15,7 @@ static void s2_readings(void)
     IS(skv_s2_skipped_vlow(2, 1, 3), 0, value, 0);
     for (uint8_t atten = 0; atten < 4; atten++) {
         const SkvReading low = skv_s2_reading_vlow(dump, WORDS, 1, 1, atten);
-        CHECK(low.refusal.number == 0 && low.value >= 577);
+        CHECK(plain(low.refusal, 0) && low.value >= 577);
         IS(skv_s2_skipped_vlow(1, 1, atten), 0, value, low.value);
         CHECK(skv_s2_reading_vhigh(dump, WORDS, 1, 1, atten).value > low.value);
     }
@@ -100,7 +100,7 @@ void curves(void)
     for (int chip = SKV_C3; chip <= SKV_S3; chip++) {
         const int second = chip == SKV_C3 || chip == SKV_P4 || chip == SKV_S3;
         IS(skv_correct((uint8_t)chip, 2, 0, 3, zero), 0, voltage.mv, 0);
-        CHECK(skv_correct((uint8_t)chip, 2, 1, 3, zero).refusal.number == (second ? 0 : SKV_CURVE));
+        CHECK(plain(skv_correct((uint8_t)chip, 2, 1, 3, zero).refusal, second ? 0 : SKV_CURVE));
         IS(skv_correct((uint8_t)chip, 2, 0, 3, above), SKV_LINE_ANSWER, voltage.mv, 0);
     }
     CHECK(skv_correct(SKV_C6, 1, 0, 3, most).voltage.mv != skv_correct(SKV_C6, 2, 0, 3, most).voltage.mv);

@@ -44,7 +44,7 @@ void edges(void)
         IS(skv_read_field_u16(dump, WORDS, field), 0, value, (uint16_t)wanted);
         IS(skv_read_field_u32(dump, WORDS, field), 0, value, (uint32_t)wanted);
         uint8_t bytes[9];
-        CHECK(skv_read_field_le(dump, WORDS, field, bytes, 9).refusal.number == 0);
+        CHECK(plain(skv_read_field_le(dump, WORDS, field, bytes, 9).refusal, 0));
         for (int i = 0; i < 9; i++)
             CHECK(bytes[i] == (i < 8 ? (uint8_t)(wanted >> (8 * i)) : 0));
     }

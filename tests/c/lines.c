@@ -32,8 +32,7 @@ static SkvDecoded with_codes(uint32_t low, uint32_t high, uint8_t attenuation)
 
 static int no_record(SkvDecoded d, uint8_t number)
 {
-    const SkvLineRecord r = d.record;
-    return d.refusal.number == number && r.coeff_a == 0 && r.coeff_b == 0 && r.vref == 0 && r.unit == 0 && r.use_lut == 0;
+    return plain(d.refusal, number) && is_zero(d.record);
 }
 
 static void decoding(void)
@@ -50,10 +49,10 @@ static void decoding(void)
     r = with_codes(1, 1, 3).record;
     CHECK(r.coeff_a == 52567 && r.coeff_b == 138);
     for (uint8_t attenuation = 0; attenuation < 4; attenuation++)
-        CHECK(with_codes(63, 0x1BD, attenuation).refusal.number == 0);
+        CHECK(plain(with_codes(63, 0x1BD, attenuation).refusal, 0));
     CHECK(with_codes(63, 0x1BD, 0).record.coeff_b == 0);
     CHECK(no_record(with_codes(63, 0x1BC, 0), SKV_UNDERFLOW));
-    CHECK(with_codes(63, 0x1BC, 3).refusal.number == 0 && with_codes(63, 0x1BC, 3).record.coeff_b == 53);
+    CHECK(plain(with_codes(63, 0x1BC, 3).refusal, 0) && with_codes(63, 0x1BC, 3).record.coeff_b == 53);
     CHECK(no_record(with_codes(63, 0x101, 3), SKV_UNDERFLOW));
     esp32_map(map);
     CHECK(skv_decode(dump, WORDS, map, ESP32_MAP, 1, 2).record.unit == 1);
@@ -74,9 +73,9 @@ static void converting(void)
     IS(skv_convert(r, counts[4]), 0, voltage.mv, marked[4]);
     r.use_lut = 0;
     IS(skv_convert(r, counts[4]), 0, voltage.mv, 3441);
-    CHECK(skv_check_record(r).refusal.number == 0);
+    CHECK(plain(skv_check_record(r).refusal, 0));
     r.coeff_a = 131072;
-    CHECK(skv_check_record(r).refusal.number == SKV_LINE_RECORD);
+    CHECK(plain(skv_check_record(r).refusal, SKV_LINE_RECORD));
     IS(skv_convert(r, above), SKV_LINE_RECORD, voltage.mv, 0);
 }
 
@@ -85,21 +84,21 @@ static void filling(void)
     static uint16_t table[SKV_COUNTS], before[SKV_COUNTS];
     SkvLineRecord r = with_vref(0).record;
     const SkvCount none = {0}, late = {2000}, end = {4096}, past = {4097};
-    CHECK(skv_fill(r, none, table, 2000).refusal.number == 0);
-    CHECK(skv_fill(r, late, table + 2000, 2096).refusal.number == 0);
+    CHECK(plain(skv_fill(r, none, table, 2000).refusal, 0));
+    CHECK(plain(skv_fill(r, late, table + 2000, 2096).refusal, 0));
     for (int i = 0; i < 5; i++)
         CHECK(table[counts[i].raw] == marked[i]);
     for (int raw = 0; raw < SKV_COUNTS; raw++) {
         const SkvCount count = {(uint16_t)raw};
         CHECK(table[raw] == skv_convert(r, count).voltage.mv);
     }
-    CHECK(skv_fill(r, none, table, SKV_COUNTS).refusal.number == 0);
+    CHECK(plain(skv_fill(r, none, table, SKV_COUNTS).refusal, 0));
     memcpy(before, table, sizeof table);
-    CHECK(skv_fill(r, late, table, 2097).refusal.number == SKV_STRETCH);
-    CHECK(skv_fill(r, end, table, 0).refusal.number == 0);
-    CHECK(skv_fill(r, past, table, 0).refusal.number == SKV_STRETCH);
+    CHECK(plain(skv_fill(r, late, table, 2097).refusal, SKV_STRETCH));
+    CHECK(plain(skv_fill(r, end, table, 0).refusal, 0));
+    CHECK(plain(skv_fill(r, past, table, 0).refusal, SKV_STRETCH));
     r.vref = 994;
-    CHECK(skv_fill(r, past, table, 1).refusal.number == SKV_LINE_RECORD);
+    CHECK(plain(skv_fill(r, past, table, 1).refusal, SKV_LINE_RECORD));
     CHECK(memcmp(table, before, sizeof table) == 0);
 }
 
@@ -112,7 +111,7 @@ void lines(void)
 
 static int nothing(SkvNext n, uint8_t number)
 {
-    return n.refusal.number == number && n.whole == 0 && n.sample.raw.raw == 0 && n.sample.board == 0 && n.sample.last == 0;
+    return plain(n.refusal, number) && n.whole == 0 && n.sample.raw.raw == 0 && n.sample.board == 0 && n.sample.last == 0;
 }
 
 /* Document 01's log of three samples, and one bad in each way. */
@@ -127,7 +126,7 @@ void logs(void)
     esp32_map(map);
     for (int i = 0; i < 3; i++) {
         const SkvNext next = skv_next_sample(log + SKV_SAMPLE_BYTES * i, (size_t)(12 - SKV_SAMPLE_BYTES * i));
-        CHECK(next.refusal.number == 0 && next.whole == 1 && next.sample.board == log[4 * i + 2] && next.sample.last == 3);
+        CHECK(plain(next.refusal, 0) && next.whole == 1 && next.sample.board == log[4 * i + 2] && next.sample.last == 3);
         IS(skv_sample(next.sample, dump, WORDS, dump, WORDS, map, ESP32_MAP), numbers[i], voltage.mv, answers[i]);
     }
     CHECK(nothing(skv_next_sample(log, 0), 0));

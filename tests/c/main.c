@@ -1,5 +1,5 @@
 /* Calls every function of suongkivat.h with good and with bad input, and holds the answers to document 01: its marked cases, its
-   refusals in their order, and zeros beside each. Ends 'N checks, M failed'. */
+   refusals in their order, and zeros beside each; and to document 02: which record of a map is bad. Ends 'N checks, M failed'. */
 #include "check.h"
 #include <stdio.h>
 
@@ -16,9 +16,11 @@ void check(int good, const char *file, int line, const char *what)
 
 int main(void)
 {
+    sizes();
     fields();
     edges();
     maps();
+    records();
     lines();
     s2();
     c6();

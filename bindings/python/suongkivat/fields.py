@@ -42,7 +42,7 @@ def read_field_le(
 
 def check_map(chip: SupportsIndex, field_map: Bytes) -> None:
     """Raises Refused where a map isn't its chip's; no map is that of a chip other than ESP32, S2 and C6. The map's refusals: 2, and then
-    of each record from first to last 3, 4, 5, 6.
+    of each record from first to last 3, 18, 4, 5, 6, with the `record` that it is.
     """
     ask("skv_check_map", held("a chip", chip, 8), *bytes_lent(field_map))
 

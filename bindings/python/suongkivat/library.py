@@ -15,7 +15,7 @@ import subprocess
 from typing import Any, Iterator, NamedTuple
 
 from . import raw
-from .refusals import Refused
+from .refusals import refused
 
 VARIABLE = "SUONGKIVAT_LIBRARY"
 PACKAGE = pathlib.Path(__file__).resolve().parent
@@ -73,10 +73,19 @@ def _declared(path: str) -> ctypes.CDLL:
     for name, (gives, *takes) in raw.CALLS.items():
         call = getattr(calls, name, None)
         if call is None:
-            raise LibraryMissing(f"{path} has no {name}, so it isn't the library of this package's version, {raw.VERSION}\n{HOW}")
+            raise _another(path, f"has no {name}")
         call.restype = gives
         call.argtypes = takes
+    # A library of another first version number can have the same names and other structs, whose values would be taken from wrong
+    # places, in silence. So one answer that is known is looked at: the S2's reference voltage at attenuation 0.
+    known = calls.skv_s2_cal_mv(0, 0)
+    if (bytes(known.refusal), known.voltage.mv) != (bytes(3), 600):
+        raise _another(path, "has answers of another form")
     return calls
+
+
+def _another(path: str, why: str) -> LibraryMissing:
+    return LibraryMissing(f"{path} {why}, so it isn't the library of this package's version, {raw.VERSION}\n{HOW}")
 
 
 @functools.lru_cache(maxsize=None)
@@ -102,5 +111,5 @@ def ask(name: str, *arguments: Any) -> Any:
     """A call's answer; raises Refused where it is turned down."""
     answer = getattr(loaded().calls, name)(*arguments)
     if answer.refusal.number:
-        raise Refused(answer.refusal.number)
+        raise refused(answer.refusal, name in raw.MAPPED)
     return answer

@@ -6,7 +6,7 @@ from __future__ import annotations
 import ctypes
 from ctypes import POINTER, c_char_p, c_int32, c_size_t, c_uint8, c_uint16, c_uint32
 
-VERSION = "1.0"
+VERSION = "2.0"
 DUMP_WORDS = 88
 ESP32_MAP_BYTES = 48
 S2_MAP_BYTES = 16
@@ -16,7 +16,7 @@ COUNTS = 4096
 
 
 class SkvRefusal(ctypes.Structure):
-    _fields_ = [("number", c_uint8)]
+    _fields_ = [("number", c_uint8), ("record", c_uint8), ("place", c_uint8)]
 
 
 class SkvCount(ctypes.Structure):
@@ -117,4 +117,18 @@ CALLS = {
     "skv_correct": (SkvVoltage, c_uint8, c_uint8, *UNIT_ATTENUATION, SkvMillivolt),
     "skv_next_sample": (SkvNext, *BYTES),
     "skv_sample": (SkvVoltage, SkvSample, *DUMP, *DUMP, *BYTES),
+}
+
+# The calls that take a map: a refusal of one of its records tells which.
+MAPPED = {
+    "skv_check_map",
+    "skv_decode",
+    "skv_s2_version",
+    "skv_s2_init_code",
+    "skv_s2_cal_code",
+    "skv_s2_flash_encryption",
+    "skv_c6_init_code",
+    "skv_c6_cal_code",
+    "skv_c6_get_chan_compens",
+    "skv_sample",
 }

@@ -5,11 +5,13 @@ from __future__ import annotations
 
 from typing import Optional
 
+from . import raw
+
 WORDS = {
     1: ("the dump hasn't 88 words", "dump the board again; a dump file has 352 bytes"),
     2: ("the map's length isn't its chip's", "take the map of this chip, and see that it is whole"),
     3: (
-        "a map record's id or a zero byte is wrong",
+        "a map record's id isn't that of its place",
         "mend that record: ids in order, each once; look for a shifted byte",
     ),
     4: ("block above 10", "mend the block"),
@@ -38,22 +40,46 @@ WORDS = {
         "distrust the log: a byte was lost or the layout is another",
     ),
     16: ("log ends inside a record", "the log was cut off; what came before it stands"),
+    18: (
+        "a byte among a map record's last three isn't zero",
+        "mend that byte: it is zero in every record; look for a shifted byte",
+    ),
 }
+
+MAP_BYTE = 18
+# The refusals of one record of a map, in their order. Reading a field gives 4 and 5 too, and a view 4, but of no record.
+OF_A_RECORD = 3, MAP_BYTE, 4, 5, 6
 
 
 class Refused(ValueError):
     """A call was turned down. `number` says why, by the table of docs/RULES.md; `words` says it in words, and `advice` what to do.
 
+    `record` is the number of the map's first bad record, from 0, where a call that takes a map gives 3, 18, 4, 5 or 6; else None. `place`
+    is at 18 that of this record's first byte that should be zero and isn't, 5, 6 or 7; else None.
+
     `at` is the place of the first count that was refused, where many were handed in at once; else None.
     """
 
-    def __init__(self, number: int, at: Optional[int] = None) -> None:
-        super().__init__(number, at)
+    def __init__(
+        self, number: int, at: Optional[int] = None, record: Optional[int] = None, place: Optional[int] = None
+    ) -> None:
+        super().__init__(number, at, record, place)
         self.number = number
         self.at = at
+        self.record = record
+        self.place = place
         unknown = "a number that this package doesn't know", "take the package of the library's version"
         self.words, self.advice = WORDS.get(number, unknown)
 
     def __str__(self) -> str:
-        place = "" if self.at is None else f" (the count at place {self.at})"
-        return f"refused {self.number}: {self.words}{place}; {self.advice}"
+        byte = "" if self.place is None else f", byte {self.place}"
+        record = "" if self.record is None else f"map record {self.record}{byte}: "
+        count = "" if self.at is None else f" (the count at place {self.at})"
+        return f"refused {self.number}: {record}{self.words}{count}; {self.advice}"
+
+
+def refused(refusal: raw.SkvRefusal, mapped: bool) -> Refused:
+    """What a refusal of a call says, which takes a map or doesn't. C has 0 where no record and no place is told."""
+    number = refusal.number
+    record = refusal.record if mapped and number in OF_A_RECORD else None
+    return Refused(number, record=record, place=refusal.place if number == MAP_BYTE else None)

@@ -22,6 +22,14 @@ def number_of(call, *arguments):
     return answered(call, *arguments)[0]
 
 
+def told(call, *arguments):
+    """A call's number, the map's record and the byte's place that it tells, each None where it tells none, and its value."""
+    try:
+        return 0, None, None, call(*arguments)
+    except suongkivat.Refused as refused:
+        return refused.number, refused.record, refused.place, 0
+
+
 def field_map(*places):
     """A map of records of an id, a block, a bit start and a bit count."""
     return b"".join(struct.pack("<BBHB3x", *place) for place in places)

@@ -60,6 +60,9 @@ class Header(unittest.TestCase):
         self.assertEqual(sorted(declared()), sorted(set(re.findall(r"\bskv_\w+", CODE))))
         self.assertEqual(raw.CALLS, declared())
 
+    def test_the_calls_that_take_a_map(self):
+        self.assertEqual(raw.MAPPED, set(re.findall(r"(skv_\w+)\([^)]*\bconst uint8_t \*map,", CODE)))
+
     def test_every_call_is_called(self):
         package = ROOT / "bindings/python/suongkivat"
         used = "".join(file.read_text() for file in package.glob("*.py") if file.name != "raw.py")

@@ -7,6 +7,7 @@ import sys
 import tempfile
 import unittest
 
+from suongkivat import raw
 from suongkivat.library import loaded
 
 from .project import ROOT
@@ -79,7 +80,8 @@ class Library(unittest.TestCase):
         if not shutil.which("pkg-config"):
             self.skipTest("there is no pkg-config (Debian: pkg-config)")
         path = self.copied("in stalled/lib/libsuongkivat.so")
-        (self.room / "suongkivat.pc").write_text(f"libdir={path.parent}\nName: suongkivat\nDescription: here\nVersion: 1.0\n")
+        lines = f"libdir={path.parent}", "Name: suongkivat", "Description: here", f"Version: {raw.VERSION}", ""
+        (self.room / "suongkivat.pc").write_text("\n".join(lines))
         self.finds(path, PKG_CONFIG_PATH=str(self.room))
 
     def test_no_library_at_all(self):
@@ -89,14 +91,25 @@ class Library(unittest.TestCase):
         self.assertEqual(status, 1)
         self.assertIn(f"{path} can't be loaded", told)
 
-    def test_another_library(self):
+    def told_of(self, source):
+        """What is told of a library of that source."""
         if not shutil.which("gcc"):
             self.skipTest("there is no gcc (Debian: gcc)")
         path = self.room / "site/suongkivat/libsuongkivat.so"
-        subprocess.run(["gcc", "-shared", "-x", "c", "-o", str(path), "-"], input=b"int nothing;", check=True)
-        status, _, told = self.told()
-        self.assertEqual(status, 1)
-        self.assertIn(f"{path} has no skv_", told)
+        subprocess.run(["gcc", "-shared", "-fPIC", "-x", "c", "-o", str(path), "-"], input=source.encode(), check=True)
+        status, written, told = self.told()
+        self.assertEqual((status, written), (1, ""))
+        return told.replace(str(path), "IT")
+
+    def test_another_library(self):
+        self.assertIn("IT has no skv_", self.told_of("int nothing;"))
+
+    def test_a_library_of_another_version(self):
+        # Version 1 had the same names. A refusal was its number alone, so that the millivolts began at byte 2.
+        answer = "struct answer { unsigned char number; unsigned short mv; };"
+        calls = (f"struct answer {name}(void) {{ struct answer a = {{0, 600}}; return a; }}" for name in raw.CALLS)
+        told = self.told_of("\n".join((answer, *calls)))
+        self.assertIn(f"IT has answers of another form, so it isn't the library of this package's version, {raw.VERSION}", told)
 
     def test_words(self):
         self.assertEqual(self.told("--help")[0], 0)

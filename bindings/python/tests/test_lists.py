@@ -9,7 +9,7 @@ from array import array
 import suongkivat
 from suongkivat import LineRecord, c6, s2
 
-from .project import CRATES, answered, number_of
+from .project import CRATES, answered, number_of, told
 
 DUMP_BYTES = 352
 BEFORE = 65535
@@ -31,6 +31,12 @@ def cases(program, name, size, per_dump=0):
 def compared(program, name):
     """How many cases of a list the gate's program compares."""
     return int(re.search(rf"^{name}: (\d+) compared, 0 differ$", (CRATES / program / "stdout").read_text(), flags=re.M)[1])
+
+
+def listed(number, record, place, value):
+    """What a list has, as it is told: a record by 3, 18, 4, 5, 6 alone and a place by 18 alone. Elsewhere the list has 0, or it differs."""
+    tells_record, tells_place = number in (3, 18, 4, 5, 6), number == 18
+    return number, record if tells_record or record else None, place if tells_place or place else None, value
 
 
 def record_of(case):
@@ -70,23 +76,24 @@ class Lists(unittest.TestCase):
         chips = suongkivat.Chip.ESP32, suongkivat.Chip.S2, suongkivat.Chip.C6
 
         def same(_, case):
-            which, length, place, byte, place2, byte2, number, _ = case
+            which, length, at, byte, at2, byte2, number, record, place = case
             changed = bytearray(good[128 * which + 8 : 128 * which + 128] + bytes(256))
-            changed[place], changed[place2] = byte, byte2
-            return number_of(suongkivat.check_map, chips[good[128 * which]], changed[:length]), number
+            changed[at], changed[at2] = byte, byte2
+            got = told(suongkivat.check_map, chips[good[128 * which]], changed[:length])
+            return got, listed(number, record, place, 0 if number else None)
 
-        self.replay("efuse_cases", "maps", 8, same)
+        self.replay("efuse_cases", "maps", 9, same)
 
     def test_decode(self):
         def same(words, case):
-            length, lent, unit, attenuation, number, lookup, vref, a, b = struct.unpack_from("<BBBBBBHII", case, 48)
-            listed = LineRecord(a, b, vref, unit, bool(lookup))
-            got = answered(suongkivat.decode, words[:lent], case[:length], unit, attenuation)
+            length, lent, unit, attenuation, number, lookup, vref, a, b, record, place = struct.unpack_from("<BBBBBBHIIBB", case, 48)
+            line = LineRecord(a, b, vref, unit, bool(lookup))
+            got = told(suongkivat.decode, words[:lent], case[:length], unit, attenuation)
             board = suongkivat.Board(words[:lent], case[:length])
-            self.assertEqual(answered(board.record, unit, attenuation), got)
-            return got, (number, 0 if number else listed)
+            self.assertEqual(told(board.record, unit, attenuation), got)
+            return got, listed(number, record, place, 0 if number else line)
 
-        self.replay("line_cases", "decode", 64, same, 32)
+        self.replay("line_cases", "decode", 68, same, 32)
 
     def test_convert(self):
         def same(_, case):
@@ -136,7 +143,7 @@ class Lists(unittest.TestCase):
         skipped = s2.skipped_vlow, s2.skipped_vhigh, s2.skipped_vinit
 
         def same(words, case):
-            length, lent, call, version, unit, attenuation, parameter, number, value = struct.unpack_from("<8Bi", case, 16)
+            length, lent, call, version, unit, attenuation, parameter, number, value, *where = struct.unpack_from("<8BiBB", case, 16)
             dump, field_map = words[:lent], case[:length]
             asked = (
                 (s2.version, dump, field_map),
@@ -147,17 +154,17 @@ class Lists(unittest.TestCase):
                 (s2.cal_code, dump, field_map, unit, attenuation),
                 (s2.cal_mv, unit, attenuation),
             )[call]
-            return answered(*asked), (number, value)
+            return told(*asked), listed(number, *where, value)
 
-        self.replay("esp32s2_cases", "calls", 28, same, 64)
+        self.replay("esp32s2_cases", "calls", 32, same, 64)
 
     def test_c6(self):
         good = (CRATES / "esp32c6_cases/data/map").read_bytes()
 
         def same(words, case):
-            place, length, lent, call, minor, unit, attenuation, channel, number, value = struct.unpack_from("<9B3xi", case, 8)
+            at, length, lent, call, minor, unit, attenuation, channel, number, *where, value = struct.unpack_from("<11Bxi", case, 8)
             changed = bytearray(good + bytes(8))
-            changed[8 * place : 8 * place + 8] = case[:8]
+            changed[8 * at : 8 * at + 8] = case[:8]
             dump, field_map = words[:lent], changed[:length]
             asked = (
                 (c6.version, minor),
@@ -166,7 +173,7 @@ class Lists(unittest.TestCase):
                 (c6.get_chan_compens, dump, field_map, unit, channel, attenuation),
                 (c6.cal_mv, minor, unit, attenuation),
             )[call]
-            return answered(*asked), (number, value)
+            return told(*asked), listed(number, *where, value)
 
         self.replay("esp32c6_cases", "calls", 24, same, 128)
 
