@@ -1,11 +1,11 @@
 -- What a refusal on a map tells: the first bad record and its first nonzero byte, since the run stops there; any other number is plain.
 -- Assumes nothing.
 use mathlib.Core.Path.{_≡_, refl, sym, _∙_, ap, subst}
-use mathlib.Core.Bool.{Bool, true, false, cond, _&&_, true≢false}
+use mathlib.Core.Bool.{Bool, true, false, cond, true≢false}
 use mathlib.Core.List.{List}
 use Prim.Native.Nat.{ℕ, _+_, _≤_, _<_}
 use native.Mathlib.Omega.{arith}
-use lib.Dec.{leb, eqb}
+use lib.Dec.{eqb}
 use borrow.Author.Tests.{eq-eqb, ne-eqb}
 use Rattle.terms.specs.declared.chip.MapChip.{MapChip}
 use Rattle.terms.specs.declared.refusal.Refusal.{Refusal}
@@ -15,7 +15,7 @@ use Rattle.terms.specs.Says.{Says}
 use Rattle.terms.specs.When.{fault, no-fault}
 use Rattle.terms.proofs.Exactly.{case, first-fault}
 use Rattle.terms.proofs.Order.{whether, equal-or}
-use Rattle.terms.proofs.Refusals.{or-none, told-good, number-is, Passed, first-stop, first-none}
+use Rattle.terms.proofs.Refusals.{told-good, number-is, Passed, first-stop, first-none}
 use Rattle.terms.proofs.Says.{Paper, told-says}
 use Rattle.efuse.specs.When.{bad-block, bad-bits, good-place}
 use Rattle.maps.specs.Map.{recordByte, strayOf, idsOf, mapRecordRefusals, mapRefusal}
@@ -23,6 +23,13 @@ use Rattle.maps.specs.Told.{ofRecord, badRecord, toldFrom, toldOf, ToldW
 use Rattle.maps.specs.Told.{FirstByte, fifth, sixth, seventh, FirstBad, Tells, byte, a-record, no-record}
 use Rattle.maps.specs.When.{Zeros, MapRecordWhen, bad-id, bad-byte, bad-place, bad-count, good-record, MapWhen, bad-length, records}
 use Rattle.maps.proofs.Exactly.{record-exactly, map-exactly}
+
+-- a place that 18 alone tells
+pub place-byte : {n place stray : ℕ} → n ≡ 18 → place ≡ stray → place ≡ cond (eqb n 18) stray 0
+place-byte h e = e ∙ rw (eq-eqb _ _ h)
+
+pub place-none : {n : ℕ} (stray : ℕ) → (n ≡ 18 → ⊥) → 0 ≡ cond (eqb n 18) stray 0
+place-none stray h = rw (ne-eqb _ _ h)
 
 -- a test for a number that is of no record gives none of a record
 pub refuse-plain : (t : Bool) (n : ℕ) → ofRecord n ≡ false → ofRecord (refuse t n 0) ≡ false
@@ -90,7 +97,7 @@ module _ (words : ℕ → ℕ) (map : List ℕ) where
 
     pub told-plain : {n : ℕ} → ofRecord n ≡ false → toldOf words chip map n ≡ plain n
     unfolding toldOf
-    told-plain {n} e = let p = or-none (leb 3 n && leb n 6) (eqb n 18) e in rw (e, p .1)
+    told-plain {n} e = rw (e, ne-eqb n 18 (λ h. true≢false (sym (ap ofRecord h) ∙ e)))
 
     pub told-none : (n : ℕ) → toldOf words chip map n .number ≡ 0 → toldOf words chip map n ≡ plain 0
     told-none n e = ap (toldOf words chip map) (sym (told-number n) ∙ e) ∙ told-plain refl
