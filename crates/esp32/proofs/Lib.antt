@@ -5,5 +5,5 @@ pub mod ExactSum
 pub mod Exactly
 pub mod Says
 pub mod Sources
-pub mod Told
+pub mod Tells
 pub mod Unique

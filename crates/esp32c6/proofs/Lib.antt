@@ -4,5 +4,5 @@ pub mod Exactly
 pub mod Fields
 pub mod Ranges
 pub mod Says
-pub mod Told
+pub mod Tells
 pub mod Unique

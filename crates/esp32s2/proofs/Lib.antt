@@ -1,5 +1,5 @@
 pub mod Fields
 pub mod Ones
 pub mod Says
-pub mod Told
+pub mod Tells
 pub mod Unique

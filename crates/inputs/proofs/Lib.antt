@@ -1,5 +1,5 @@
 pub mod Exactly
 pub mod Inputs
-pub mod Told
+pub mod Tells
 pub mod Unique
 pub mod Values

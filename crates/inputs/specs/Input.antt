@@ -9,13 +9,13 @@ use Rattle.maps.specs.Map.{mapRefusal}
 
 -- of a call that takes no unit and no attenuation
 -- 1 for the dump
--- then 2 to 6 for the map
+-- then those of the map
 unfoldable pub fieldsRefusal : (ℕ → ℕ) → MapChip → List ℕ → List ℕ → ℕ
 fieldsRefusal words chip dump map = orElse (dumpRefusal dump) (mapRefusal words chip map)
 
 -- 1 for the dump
 -- 7 for unit and attenuation
--- then 2 to 6 for the map
+-- then those of the map
 unfoldable pub decodingRefusal : (ℕ → ℕ) → MapChip → List ℕ → List ℕ → ℕ → ℕ → ℕ
 decodingRefusal words chip dump map unit atten =
     orElse (dumpRefusal dump)

@@ -1,5 +1,6 @@
 pub mod Exactly
 pub mod Maps
 pub mod Says
+pub mod Tells
 pub mod Told
 pub mod Unique

@@ -1,28 +1,22 @@
--- What a refusal on a map tells: the first bad record and its first nonzero byte, since the run stops there; any other number is plain.
--- Assumes nothing.
-use mathlib.Core.Path.{_≡_, refl, sym, _∙_, ap, subst}
+-- Laws of what a refusal on a map tells: where a run of records stops; any number that is of no record is plain; which case a call's answer
+-- is, and what it says. Assumes nothing.
+use mathlib.Core.Path.{_≡_, refl, sym, _∙_, ap}
 use mathlib.Core.Bool.{Bool, true, false, cond, true≢false}
 use mathlib.Core.List.{List}
-use Prim.Native.Nat.{ℕ, _+_, _≤_, _<_}
-use native.Mathlib.Omega.{arith}
+use Prim.Native.Nat.{ℕ, _≤_, _<_}
 use lib.Dec.{eqb}
 use borrow.Author.Tests.{eq-eqb, ne-eqb}
 use Rattle.terms.specs.declared.chip.MapChip.{MapChip}
 use Rattle.terms.specs.declared.refusal.Refusal.{Refusal}
-use Rattle.terms.specs.Exactly.{Exactly}
 use Rattle.terms.specs.Refusal.{refuse, firstOf, plain, told}
 use Rattle.terms.specs.Says.{Says}
-use Rattle.terms.specs.When.{fault, no-fault}
-use Rattle.terms.proofs.Exactly.{case, first-fault}
-use Rattle.terms.proofs.Order.{whether, equal-or}
 use Rattle.terms.proofs.Refusals.{told-good, number-is, Passed, first-stop, first-none}
 use Rattle.terms.proofs.Says.{Paper, told-says}
 use Rattle.efuse.specs.When.{bad-block, bad-bits, good-place}
-use Rattle.maps.specs.Map.{recordByte, strayOf, idsOf, mapRecordRefusals, mapRefusal}
-use Rattle.maps.specs.Told.{ofRecord, badRecord, toldFrom, toldOf, ToldWhen}
-use Rattle.maps.specs.Told.{FirstByte, fifth, sixth, seventh, FirstBad, Tells, byte, a-record, no-record}
-use Rattle.maps.specs.When.{Zeros, MapRecordWhen, bad-id, bad-byte, bad-place, bad-count, good-record, MapWhen, bad-length, records}
-use Rattle.maps.proofs.Exactly.{record-exactly, map-exactly}
+use Rattle.maps.specs.Map.{strayOf, mapRecordRefusals}
+use Rattle.maps.specs.Told.{ofRecord, toldFrom, toldOf}
+use Rattle.maps.specs.When.{MapRecordWhen, bad-id, bad-byte, bad-place, bad-count, good-record}
+use Rattle.maps.proofs.Exactly.{record-exactly}
 
 -- a place that 18 alone tells
 pub place-byte : {n place stray : ℕ} → n ≡ 18 → place ≡ stray → place ≡ cond (eqb n 18) stray 0
@@ -64,31 +58,6 @@ module _ (words : ℕ → ℕ) (map : List ℕ) where
         → why ≡ toldFrom words map first n (firstOf numbers 0 n)
     told-end h p e = e ∙ rw (first-none numbers n k h p)
 
-  -- the definition's place of the first nonzero byte is that byte's
-  byte-is : {k p : ℕ} → FirstByte map k p → strayOf map k ≡ p
-  byte-is (fifth h) = simp (ne-eqb _ _ h)
-  byte-is (sixth z h) = simp (eq-eqb _ _ z, ne-eqb _ _ h)
-  byte-is (seventh z y h) = simp (eq-eqb _ _ z, eq-eqb _ _ y, ne-eqb _ _ h)
-
-  some-byte : (k : ℕ) → (Zeros map k → ⊥) → (p : ℕ) × FirstByte map k p
-  some-byte k bad =
-      equal-or (recordByte map k 5) 0
-      (λ z.
-      equal-or (recordByte map k 6) 0
-      (λ y. (7, seventh z y (λ x. bad (record { fifth = z; sixth = y; seventh = x }))))
-      (λ h. (6, sixth z h)))
-      (λ h. (5, fifth h))
-
-  -- at 18 a byte isn't zero
-  not-zeros : {id k n : ℕ} → MapRecordWhen words map id k n → n ≡ 18 → Zeros map k → ⊥
-  not-zeros (bad-id h) e = absurd (omega arith)
-  not-zeros (bad-byte i h) e = h
-  not-zeros (bad-place s (bad-block b) h) e = absurd (omega arith)
-  not-zeros (bad-place s (bad-bits b o) h) e = absurd (omega arith)
-  not-zeros (bad-place s (good-place i) h) e = absurd (omega arith)
-  not-zeros (bad-count s p o) e = absurd (omega arith)
-  not-zeros (good-record s p l u) e = absurd (omega arith)
-
   module _ (chip : MapChip) where
     -- it has its number, and one that is of no record tells 0 and 0
     pub told-number : (n : ℕ) → toldOf words chip map n .number ≡ n
@@ -123,56 +92,3 @@ module _ (words : ℕ → ℕ) (map : List ℕ) where
         → Paper refusal value zeros good refused → (number : ℕ) (v : B)
         → Says refusal value zeros (told (toldOf words chip map number) (good v) refused) (toldOf words chip map number) v
     map-says paper number v = told-says paper _ (told-none number) v
-
-    bad-is : {n k : ℕ} → FirstBad words chip map n k → badRecord words map (idsOf chip .first) (idsOf chip .len) ≡ k
-    bad-is f = first-fault (λ k. record-exactly words map (idsOf chip .first + k) k) (idsOf chip .len) f .1
-
-    of-record : {n k : ℕ} → FirstBad words chip map n k → ofRecord n ≡ true
-    of-record f = when-of-record (f .here) (f .some)
-
-    -- a refusal that tells so is the definition's
-    told-is : {r : Refusal} → Tells words chip map r → toldOf words chip map (r .number) ≡ r
-    unfolding toldOf
-    told-is (byte f b) = rw (bad-is f, byte-is b)
-    told-is (a-record f h) = rw (bad-is f, of-record f, ne-eqb _ _ h)
-    told-is (no-record e) = told-plain e
-
-    -- and the definition's tells so
-    tells-bad : {n k : ℕ} → FirstBad words chip map n k → Tells words chip map (toldOf words chip map n)
-    tells-bad {n} {k} f =
-        equal-or n 18
-        (λ e.
-        let b = some-byte k (not-zeros (f .here) e) in
-        let t : Tells words chip map (record { number = 18; «record» = k; place = b .0 }) = byte (rw e at f) (b .1) in
-        rw e (rw (← told-is t) at t))
-        (λ h.
-        let t : Tells words chip map (record { number = n; «record» = k; place = 0 }) = a-record f h in
-        rw (← told-is t) at t)
-
-    tells-plain : (n : ℕ) → ofRecord n ≡ false → Tells words chip map (toldOf words chip map n)
-    tells-plain n e = let t : Tells words chip map (plain n) = no-record e in rw (← told-plain e) at t
-
-    tells-map : {n : ℕ} → MapWhen words chip map n → ofRecord n ≡ true → Tells words chip map (toldOf words chip map n)
-    tells-map (bad-length h) t = absurd (true≢false (sym t))
-    tells-map (records h (fault k f)) t = tells-bad f
-    tells-map (records h (no-fault g)) t = absurd (true≢false (sym t))
-
-    -- a call on a map whose numbers of a record are the map's: its refusal is given exactly when
-    module _ {When : ℕ → Type 0} {number : ℕ} (given : Exactly number When)
-        (of-map : (n : ℕ) → When n → ofRecord n ≡ true → MapWhen words chip map n) where
-      tells : ToldWhen words chip map When (toldOf words chip map number)
-      unfolding toldOf
-      tells = (
-        case given,
-        whether (ofRecord number)
-            (λ t. tells-map (of-map number (case given) t) t)
-            (λ t. tells-plain number t),
-      )
-
-      pub told-exactly : Exactly (toldOf words chip map number) (ToldWhen words chip map When)
-      told-exactly r =
-          (λ e. subst (ToldWhen words chip map When) e tells, λ w. ap (toldOf words chip map) (given (r .number) .1 (w .0)) ∙ told-is (w .1))
-
-    -- `check_map`, `map_refusal`
-    pub map-told : Exactly (toldOf words chip map (mapRefusal words chip map)) (ToldWhen words chip map (MapWhen words chip map))
-    map-told = told-exactly (map-exactly words map chip) (λ n w t. w)

@@ -2,5 +2,5 @@ pub mod Codes
 pub mod Exactly
 pub mod Ranges
 pub mod Says
-pub mod Told
+pub mod Tells
 pub mod Unique

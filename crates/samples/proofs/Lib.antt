@@ -2,5 +2,5 @@ pub mod Exactly
 pub mod Logs
 pub mod Samples
 pub mod Says
-pub mod Told
+pub mod Tells
 pub mod Unique

@@ -5,7 +5,7 @@ use Rattle.terms.proofs.Exactly.{unit-exactly}
 use Rattle.terms.proofs.Refusals.{orElse-given}
 use Rattle.dumps.proofs.Exactly.{dump-exactly}
 use Rattle.maps.proofs.Told.{told-as, told-same}
-use Rattle.inputs.proofs.Told.{dump-plain, unit-plain}
+use Rattle.inputs.proofs.Tells.{dump-plain, unit-plain}
 use Rattle.inputs.specs.Input.{decodingRefusal}
 use Rattle.inputs.proofs.input.decoding_refusal.Statement.{statement}
 use Rattle.inputs.proofs.input.decoding_refusal.Tie as tie

@@ -4,7 +4,7 @@ use borrow.Author.Needs.{needs}
 use Rattle.terms.proofs.Refusals.{orElse-given}
 use Rattle.dumps.proofs.Exactly.{dump-exactly}
 use Rattle.maps.proofs.Told.{told-as, told-same}
-use Rattle.inputs.proofs.Told.{dump-plain}
+use Rattle.inputs.proofs.Tells.{dump-plain}
 use Rattle.inputs.specs.Input.{fieldsRefusal}
 use Rattle.inputs.proofs.input.fields_refusal.Statement.{statement}
 use Rattle.inputs.proofs.input.fields_refusal.Tie as tie

@@ -7,11 +7,12 @@ use Rattle.terms.specs.declared.chip.MapChip.the-variants.{C6}
 use Rattle.terms.specs.Code as code
 use Rattle.terms.specs.Exactly.{Exactly}
 use Rattle.terms.specs.Reading as reading
-use Rattle.maps.specs.Told.{ofRecord, ToldWhen}
+use Rattle.maps.specs.Tells.{ToldWhen}
+use Rattle.maps.specs.Told.{ofRecord}
 use Rattle.maps.specs.When.{MapWhen}
-use Rattle.maps.proofs.Told.{told-exactly}
+use Rattle.maps.proofs.Tells.{told-exactly}
 use Rattle.inputs.specs.When.{DecodingWhen}
-use Rattle.inputs.proofs.Told.{decoding-of-map, decoding-told}
+use Rattle.inputs.proofs.Tells.{decoding-of-map, decoding-told}
 use Rattle.esp32c6.specs.Channel.{chanCompensOf}
 use Rattle.esp32c6.specs.Code.{initCodeOf, calCodeOf}
 use Rattle.esp32c6.specs.When.{CodeWhen, before, bad-version, good-version}

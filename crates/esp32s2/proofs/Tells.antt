@@ -3,9 +3,9 @@ use mathlib.Core.List.{List}
 use Prim.Native.Nat.{ℕ}
 use Rattle.terms.specs.declared.chip.MapChip.the-variants.{S2}
 use Rattle.terms.specs.Exactly.{Exactly}
-use Rattle.maps.specs.Told.{ToldWhen}
+use Rattle.maps.specs.Tells.{ToldWhen}
 use Rattle.inputs.specs.When.{FieldsWhen}
-use Rattle.inputs.proofs.Told.{fields-told}
+use Rattle.inputs.proofs.Tells.{fields-told}
 use Rattle.esp32s2.specs.Encryption as encryption
 use Rattle.esp32s2.specs.Version as version
 use Rattle.esp32s2.proofs.Says.{version-says, encryption-says}

@@ -6,10 +6,11 @@ use Prim.Native.Nat.{ℕ}
 use Rattle.terms.specs.declared.chip.MapChip.the-variants.{S2}
 use Rattle.terms.specs.Code.{refusalOf}
 use Rattle.terms.specs.Exactly.{Exactly}
-use Rattle.maps.specs.Told.{ofRecord, ToldWhen}
+use Rattle.maps.specs.Tells.{ToldWhen}
+use Rattle.maps.specs.Told.{ofRecord}
 use Rattle.maps.specs.When.{MapWhen}
-use Rattle.maps.proofs.Told.{told-exactly}
-use Rattle.inputs.proofs.Told.{decoding-of-map}
+use Rattle.maps.proofs.Tells.{told-exactly}
+use Rattle.inputs.proofs.Tells.{decoding-of-map}
 use Rattle.s2_readings.specs.declared.tag.RtcCalibParam.{RtcCalibParam}
 use Rattle.s2_codes.specs.Code.{codeOf}
 use Rattle.s2_codes.specs.When.{CodeWhen, before, bad-version, good-version}

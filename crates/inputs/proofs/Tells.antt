@@ -8,9 +8,10 @@ use Rattle.terms.specs.declared.chip.MapChip.{MapChip}
 use Rattle.terms.specs.Exactly.{Exactly}
 use Rattle.terms.specs.When.{UnitWhen, bad-unit, good-unit}
 use Rattle.dumps.specs.When.{DumpWhen, bad-dump, good-dump}
-use Rattle.maps.specs.Told.{ofRecord, toldOf, ToldWhen}
+use Rattle.maps.specs.Tells.{ToldWhen}
+use Rattle.maps.specs.Told.{ofRecord, toldOf}
 use Rattle.maps.specs.When.{MapWhen}
-use Rattle.maps.proofs.Told.{told-exactly}
+use Rattle.maps.proofs.Tells.{told-exactly}
 use Rattle.inputs.specs.Input.{fieldsRefusal, decodingRefusal}
 use Rattle.inputs.specs.When.{FieldsWhen, fields-dump, fields-map, DecodingWhen, decode-dump, decode-unit, decode-map}
 use Rattle.inputs.proofs.Exactly.{fields-exactly, decoding-exactly}

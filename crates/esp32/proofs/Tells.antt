@@ -5,10 +5,11 @@ use mathlib.Core.List.{List}
 use Prim.Native.Nat.{ℕ}
 use Rattle.terms.specs.declared.chip.MapChip.the-variants.{Esp32}
 use Rattle.terms.specs.Exactly.{Exactly}
-use Rattle.maps.specs.Told.{ofRecord, ToldWhen}
+use Rattle.maps.specs.Tells.{ToldWhen}
+use Rattle.maps.specs.Told.{ofRecord}
 use Rattle.maps.specs.When.{MapWhen}
-use Rattle.maps.proofs.Told.{told-exactly}
-use Rattle.inputs.proofs.Told.{decoding-of-map}
+use Rattle.maps.proofs.Tells.{told-exactly}
+use Rattle.inputs.proofs.Tells.{decoding-of-map}
 use Rattle.line_record.specs.Decoded.{refusalOf}
 use Rattle.esp32.specs.Decode.{decodeOf}
 use Rattle.esp32.specs.When.{DecodeWhen, before, underflow, decoded}
