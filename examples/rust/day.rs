@@ -19,6 +19,13 @@ fn refused(refusal: Refusal) -> String {
     format!("refused {}", refusal.number())
 }
 
+/// Why there is no record, and which record of the map is bad, where it is one.
+fn undecoded(refusal: Refusal) -> String {
+    let record = refusal.record.map_or_else(String::new, |record| format!(": map record {record}"));
+    let byte = refusal.place.map_or_else(String::new, |place| format!(", byte {place}"));
+    format!("{}{record}{byte}", refused(refusal))
+}
+
 fn told(answer: Answer<Millivolt>) -> String {
     answer.map_or_else(refused, |voltage| voltage.0.to_string())
 }
@@ -27,7 +34,7 @@ fn told(answer: Answer<Millivolt>) -> String {
 fn print_record(name: char, board: Board, unit: Unit, attenuation: Attenuation) {
     print!("record {name}, unit {}, attenuation {}: ", unit.0, attenuation.0);
     match board.record(unit, attenuation) {
-        Err(refusal) => println!("{}", refused(refusal)),
+        Err(refusal) => println!("{}", undecoded(refusal)),
         Ok(record) => {
             let (a, b, vref, lookup) = (record.coeff_a, record.coeff_b, record.vref, u8::from(record.uses_lookup()));
             println!("a {a}, b {b}, Vref {vref}, lookup {lookup}");
