@@ -2,6 +2,7 @@
 use crate::fault::Fault;
 use crate::fault::File;
 use crate::fault::fault_of;
+use bad_record::told::put_bad_record;
 use terms::refusal;
 use terms::refusal::Refusal;
 use words::put::put_decimal;
@@ -10,9 +11,9 @@ ghost use Prim.Native.Nat.{_+_, _≤_};
 ghost use lib.ListN.{length};
 ghost use Rattle.io.specs.Counts.{Counts};
 ghost use Rattle.terms.specs.Put.{Put};
-ghost use Rattle.words.specs.Put.{decimal};
+ghost use Rattle.bad_record.specs.Told.{badText};
 ghost use Rattle.faults.specs.Fault.{faultOf};
-ghost use Rattle.faults.specs.Told.{nameOf, idOf, placeOf, wrongId, wrongByte, wrongOf, wordsOf, endOf, faultText};
+ghost use Rattle.faults.specs.Told.{nameOf, wordsOf, endOf, faultText};
 
 // A word, at a place with room for it.
 fn put(out: &mut [u8], at: usize, word: &[u8]) -> usize
@@ -34,80 +35,15 @@ fn put_name(out: &mut [u8], file: File) -> usize
     }
 }
 
-// A number in decimal, at a place with room for any.
-fn put_number(out: &mut [u8], at: usize, n: u64) -> usize
-    requires { ⌜ at + 20 ≤ length (now out) ⌝ }
-    ensures { λ r. ⌜ Put (now (out .entry)) at (decimal n) r (now (out .exit)) × (r ≤ at + 20) ⌝ }
+// The words for a bad record of the map, at a place with room for them.
+fn put_record(out: &mut [u8], at: usize, why: Refusal) -> usize
+    requires { ⌜ at + 111 ≤ length (now out) ⌝ }
+    ensures { λ r. ⌜ Put (now (out .entry)) at (badText why) r (now (out .exit)) × (r ≤ at + 111) ⌝ }
 {
-    put_decimal(out, at, n)
+    put_bad_record(out, at, why)
 }
 
-// The name of the id that a record of an ESP32's map has.
-fn put_id(out: &mut [u8], at: usize, k: u8) -> usize
-    requires { ⌜ at + 17 ≤ length (now out) ⌝ }
-    ensures { λ r. ⌜ Put (now (out .entry)) at (idOf k) r (now (out .exit)) × (r ≤ at + 17) ⌝ }
-{
-    match k {
-        0 => put(out, at, b"ADC_VREF"),
-        1 => put(out, at, b"BLK3_PART_RESERVE"),
-        2 => put(out, at, b"ADC1_TP_LOW"),
-        3 => put(out, at, b"ADC2_TP_LOW"),
-        4 => put(out, at, b"ADC1_TP_HIGH"),
-        _ => put(out, at, b"ADC2_TP_HIGH"),
-    }
-}
-
-// Which record of the map it is.
-fn put_place(out: &mut [u8], at: usize, k: u8) -> usize
-    requires { ⌜ at + 51 ≤ length (now out) ⌝ }
-    ensures { λ r. ⌜ Put (now (out .entry)) at (placeOf k) r (now (out .exit)) × (r ≤ at + 51) ⌝ }
-{
-    let next = put(out, at, b": record ");
-    let next = put_number(out, next, k as u64);
-    let next = put(out, next, b" (");
-    let next = put_id(out, next, k);
-    put(out, next, b"): ")
-}
-
-// A record whose id isn't the one that its place asks for, from 1 on.
-fn put_wrong_id(out: &mut [u8], at: usize, k: u8) -> usize
-    requires { ⌜ at + 33 ≤ length (now out) ⌝ }
-    ensures { λ r. ⌜ Put (now (out .entry)) at (wrongId k) r (now (out .exit)) × (r ≤ at + 33) ⌝ }
-{
-    let next = put(out, at, b"its id isn't ");
-    put_number(out, next, k as u64 + 1)
-}
-
-// A byte that should be zero.
-fn put_wrong_byte(out: &mut [u8], at: usize, place: u8) -> usize
-    requires { ⌜ at + 36 ≤ length (now out) ⌝ }
-    ensures { λ r. ⌜ Put (now (out .entry)) at (wrongByte place) r (now (out .exit)) × (r ≤ at + 36) ⌝ }
-{
-    let next = put(out, at, b"byte ");
-    let next = put_number(out, next, place as u64);
-    put(out, next, b" isn't zero")
-}
-
-// What is wrong with a record of the map.
-fn put_wrong(out: &mut [u8], at: usize, why: Refusal) -> usize
-    requires { ⌜ at + 60 ≤ length (now out) ⌝ }
-    ensures { λ r. ⌜ Put (now (out .entry)) at (wrongOf why) r (now (out .exit)) × (r ≤ at + 60) ⌝ }
-{
-    let number = why.number;
-    match number {
-        3 => put_wrong_id(out, at, why.record),
-        18 => put_wrong_byte(out, at, why.place),
-        4 => put(out, at, b"its block is above 10"),
-        5 => put(
-            out,
-            at,
-            b"its bit start is above 255, or its field ends past bit 255",
-        ),
-        _ => put(out, at, b"its bit count isn't its id's"),
-    }
-}
-
-// Why a file is turned down.
+// Why a file is turned down: a dump with 1, a map with 2 or for a record.
 fn put_words(out: &mut [u8], at: usize, why: Refusal) -> usize
     requires { ⌜ at + 111 ≤ length (now out) ⌝ }
     ensures { λ r. ⌜ Put (now (out .entry)) at (wordsOf why) r (now (out .exit)) × (r ≤ at + 111) ⌝ }
@@ -120,10 +56,7 @@ fn put_words(out: &mut [u8], at: usize, why: Refusal) -> usize
             at,
             b": an ESP32's map has 48 bytes, and this file hasn't",
         ),
-        _ => {
-            let next = put_place(out, at, why.record);
-            put_wrong(out, next, why)
-        }
+        _ => put_record(out, at, why),
     }
 }
 

@@ -1,8 +1,5 @@
--- `faults::put_words` meets its contract: in each arm the number is known, or that it is neither; then which record it is comes before
--- what is wrong with it. Assumes nothing.
-use native.Mathlib.Omega.{arith}
+-- `faults::put_words` meets its contract: in each arm the number is known, or that it is neither. Assumes nothing.
 use borrow.Author.Tests.{ne-eqb}
-use Rattle.terms.proofs.Puts.{put-more}
 use borrow.Author.Needs.{needs}
 use Rattle.faults.proofs.told.put_words.Statement.{statement}
 use Rattle.faults.proofs.told.put_words.Tie as tie
@@ -19,11 +16,8 @@ slice-aggregate-put-2 c = search needs
 put-requires-2 : tie.Need-put-requires-2
 put-requires-2 c κs = search needs
 
-put-place-requires : tie.Need-put-place-requires
-put-place-requires c κs = search needs
-
-put-wrong-requires : tie.Need-put-wrong-requires
-put-wrong-requires c κs = search needs
+put-record-requires : tie.Need-put-record-requires
+put-record-requires c κs = search needs
 
 same-length : tie.Need-same-length
 same-length c = search needs
@@ -42,10 +36,8 @@ same-length-3 c = search needs
 
 returns-3 : tie.Need-returns-3
 returns-3 c =
-    let p = c .before .before .before .before .before .before in
-    let none = p .before .before .match .rest in
-    let wrong = c .before .before .put-wrong .ensures in
-    simp (ne-eqb _ _ (none .0 .1), ne-eqb _ _ (none .1)) (put-more (p .put-place .ensures .0) (wrong .0), omega arith)
+    let none = c .before .before .before .before .match .rest in
+    simp (ne-eqb _ _ (none .0 .1), ne-eqb _ _ (none .1)) (c .before .before .put-record .ensures)
 
 pub put-words-spec : {M : Type 1} → statement M
 put-words-spec =
@@ -55,8 +47,7 @@ put-words-spec =
     put-requires
     slice-aggregate-put-2
     put-requires-2
-    put-place-requires
-    put-wrong-requires
+    put-record-requires
     same-length
     returns
     same-length-2

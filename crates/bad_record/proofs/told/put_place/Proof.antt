@@ -1,9 +1,9 @@
--- `faults::put_place` meets its contract: five texts, one after the other. Assumes nothing.
+-- `bad_record::put_place` meets its contract: five texts, one after the other. Assumes nothing.
 use native.Mathlib.Omega.{arith}
 use Rattle.terms.proofs.Puts.{put-more}
 use borrow.Author.Needs.{needs}
-use Rattle.faults.proofs.told.put_place.Statement.{statement}
-use Rattle.faults.proofs.told.put_place.Tie as tie
+use Rattle.bad_record.proofs.told.put_place.Statement.{statement}
+use Rattle.bad_record.proofs.told.put_place.Tie as tie
 
 slice-aggregate-put : tie.Need-slice-aggregate-put
 slice-aggregate-put c = search needs

@@ -1,8 +1,8 @@
--- `faults::put_number` meets its contract: where there is room, a number that is put is written. Assumes nothing.
+-- `bad_record::put_number` meets its contract: where there is room, a number that is put is written. Assumes nothing.
 use Rattle.words.proofs.Rooms.{room-fits}
 use borrow.Author.Needs.{needs}
-use Rattle.faults.proofs.told.put_number.Statement.{statement}
-use Rattle.faults.proofs.told.put_number.Tie as tie
+use Rattle.bad_record.proofs.told.put_number.Statement.{statement}
+use Rattle.bad_record.proofs.told.put_number.Tie as tie
 
 put-decimal-requires : tie.Need-put-decimal-requires
 put-decimal-requires c κs = search needs

@@ -1,9 +1,9 @@
--- `faults::put_id` meets its contract: in each arm the record's number is known, or that it is none of those named. Assumes nothing.
+-- `bad_record::put_id` meets its contract: in each arm the record's number is known, or that it is none of those named. Assumes nothing.
 use native.Mathlib.Omega.{arith}
 use borrow.Author.Tests.{ne-eqb}
 use borrow.Author.Needs.{needs}
-use Rattle.faults.proofs.told.put_id.Statement.{statement}
-use Rattle.faults.proofs.told.put_id.Tie as tie
+use Rattle.bad_record.proofs.told.put_id.Statement.{statement}
+use Rattle.bad_record.proofs.told.put_id.Tie as tie
 
 slice-aggregate-put : tie.Need-slice-aggregate-put
 slice-aggregate-put c = search needs

@@ -1,9 +1,9 @@
--- `faults::put_wrong` meets its contract: in each arm the number is known, or that it is none of those named. Assumes nothing.
+-- `bad_record::put_wrong` meets its contract: in each arm the number is known, or that it is none of those named. Assumes nothing.
 use native.Mathlib.Omega.{arith}
 use borrow.Author.Tests.{ne-eqb}
 use borrow.Author.Needs.{needs}
-use Rattle.faults.proofs.told.put_wrong.Statement.{statement}
-use Rattle.faults.proofs.told.put_wrong.Tie as tie
+use Rattle.bad_record.proofs.told.put_wrong.Statement.{statement}
+use Rattle.bad_record.proofs.told.put_wrong.Tie as tie
 
 put-wrong-id-requires : tie.Need-put-wrong-id-requires
 put-wrong-id-requires c κs = search needs
