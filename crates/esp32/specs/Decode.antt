@@ -1,6 +1,6 @@
 -- Document 01, "ESP32 line rules", and the order of "Numbers given when a call is turned down" for decoding: "1, 7, 2, then map
--- records first to last with 3, 4, 5, 6 within each, then .. 9", 18 after 3. A dump is the list of its words, a map that of its bytes.
--- In esp-hal: `new_cal` and `check_efuse_tp` of calibration/line/esp32.rs, which cites ESP-IDF's
+-- records first to last with 3, 4, 5, 6 within each, then .. 9"; by document 02, #102, 18 comes after 3. A dump is the list of its words,
+-- a map that of its bytes. In esp-hal: `new_cal` and `check_efuse_tp` of calibration/line/esp32.rs, which cites ESP-IDF's
 -- components/esp_adc/esp32/adc_cali_line_fitting.c, line 155.
 use mathlib.Core.Bool.{Bool, not, cond, _&&_}
 use mathlib.Core.List.{List}

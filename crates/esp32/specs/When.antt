@@ -1,6 +1,6 @@
 -- Document 01, "Numbers given when a call is turned down": when decoding gives each number: "1, 7, 2, then map records first to last with
--- 3, 4, 5, 6 within each, then .. 9"; document 02, #104, says when 9. A case says too that nothing before it is given; 0 is given where
--- decoding isn't turned down.
+-- 3, 4, 5, 6 within each, then .. 9"; document 02 has 18 after 3 (#102), and says when 9 (#104). A case says too that
+-- nothing before it is given; 0 is given where decoding isn't turned down.
 use mathlib.Core.Path.{_≡_}
 use mathlib.Core.Bool.{true}
 use mathlib.Core.List.{List}

@@ -1,5 +1,5 @@
 -- Document 01, "Numbers given when a call is turned down": "Order: 1, 7, 2, then map records first to last with 3, 4, 5, 6 within
--- each", which comes before what a call has of its own.
+-- each", by document 02, #102, 18 after 3, which comes before what a call has of its own.
 use mathlib.Core.List.{List}
 use Prim.Native.Nat.{ℕ}
 use Rattle.terms.specs.declared.chip.MapChip.{MapChip}
