@@ -10,7 +10,7 @@ ghost use Rattle.terms.specs.Refusal.{plain};
 ghost use Rattle.capi.specs.Answer.{refusalC, outcomeC, voltageC, codeC, readingC, yesOrNo};
 
 // Why a call was turned down, and which record of a map is bad; zeros where it wasn't. It stands in every answer that may be a refusal,
-// and is made in one place.
+// and is made by the two functions below alone.
 #[repr(C)]
 pub struct SkvRefusal {
     pub number: u8,

@@ -1,6 +1,6 @@
 -- A refusal on a map tells the first bad record and its first nonzero byte, or it is of no record: what tells so is the definition's
 -- refusal, and the definition's tells so. Assumes nothing.
-use mathlib.Core.Path.{_≡_, refl, sym, _∙_, ap, subst}
+use mathlib.Core.Path.{_≡_, sym, _∙_, ap, subst}
 use mathlib.Core.Bool.{true, false, true≢false}
 use mathlib.Core.List.{List}
 use Prim.Native.Nat.{ℕ, _+_}

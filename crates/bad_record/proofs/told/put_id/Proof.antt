@@ -1,5 +1,4 @@
 -- `bad_record::put_id` meets its contract: in each arm the record's number is known, or that it is none of those named. Assumes nothing.
-use native.Mathlib.Omega.{arith}
 use borrow.Author.Tests.{ne-eqb}
 use borrow.Author.Needs.{needs}
 use Rattle.bad_record.proofs.told.put_id.Statement.{statement}

@@ -1,6 +1,5 @@
 -- `capi::answer::reading_c` meets its contract: in each arm the case is known, and a value that fits 32 bits is what they
 -- say. Assumes nothing.
-use mathlib.Core.Path.{_∙_}
 use mir.Syntax.{w32}
 use mir.ValLaws.{toZ-ofZ}
 use borrow.Author.Needs.{needs, sfits-of}
