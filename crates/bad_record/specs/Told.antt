@@ -37,6 +37,6 @@ wrongOf why =
     (cond (eqb (why .number) 5) (said "its bit start is above 255, or its field ends past bit 255")
     (said "its bit count isn't its id's"))))
 
--- both
+-- which record, and then what
 unfoldable pub badText : Refusal → List ℕ
 badText why = placeOf (why .«record») ++ wrongOf why
