@@ -24,9 +24,9 @@ extern "C" {
 
 /* The version of this header and its library. The first number changes where a caller has to be changed or compiled anew, the second
    where something was added. */
-#define SKV_VERSION_MAJOR 2
+#define SKV_VERSION_MAJOR 3
 #define SKV_VERSION_MINOR 0
-#define SKV_VERSION "2.0"
+#define SKV_VERSION "3.0"
 
 /* Lengths, in elements. */
 enum {
@@ -51,7 +51,7 @@ enum {
     SKV_UNIT = 7,         /* unit above 1 or attenuation above 3 */
     SKV_RAW = 8,          /* count above 4095 */
     SKV_UNDERFLOW = 9,    /* by the two points the line would begin below 0 mV */
-    SKV_LINE_RECORD = 10, /* line record outside its ranges */
+    SKV_LINE_RECORD = 10, /* line record outside its ranges, or by Vref with another a or b than its Vref's */
     SKV_STRETCH = 11,     /* a stretch whose first count plus length is above 4096 */
     SKV_NO_CODE = 12,     /* no code in that version: S2 version not 2, or C6 version not 1 or 2 */
     SKV_LINE_ANSWER = 13, /* line answer above 4095 given to the curve */
@@ -130,13 +130,22 @@ typedef struct SkvView {
     uint32_t words;
 } SkvView;
 
-/* What converting goes by: a up to 131071, b up to 4095, vref 995 to 1205, unit 0 or 1, and whether the lookup is used (0 for no). */
+/* Where a record's a and b come from. */
+enum {
+    SKV_TWO_POINT = 0,
+    SKV_VREF = 1
+};
+
+/* What converting goes by: a up to 131071, b up to 4095, vref 995 to 1205, unit 0 or 1, attenuation 0 to 3, and the source. By Vref a and
+   b are exactly those that vref gives for the unit and the attenuation. The lookup is used at attenuation 3. 16 bytes, of which the last
+   is not looked at. */
 typedef struct SkvLineRecord {
     uint32_t coeff_a;
     uint32_t coeff_b;
     uint32_t vref;
     uint8_t unit;
-    uint8_t use_lut;
+    uint8_t attenuation;
+    uint8_t source;
 } SkvLineRecord;
 
 typedef struct SkvDecoded {
@@ -200,7 +209,7 @@ SkvOutcome skv_check_map(uint8_t chip, const uint8_t *map, size_t map_len);
    Refusals 1 (dump), 7 (unit or attenuation), the map's, 9 (underflow, at this attenuation). */
 SkvDecoded skv_decode(const uint32_t *dump, size_t dump_len, const uint8_t *map, size_t map_len, uint8_t unit, uint8_t attenuation);
 
-/* Whether a record is inside its ranges.
+/* Whether a record is one to convert by: inside its ranges, and by Vref with its Vref's a and b.
    Refusal 10 (line record). */
 SkvOutcome skv_check_record(SkvLineRecord record);
 
