@@ -1,8 +1,8 @@
--- `esp32::source` meets its contract: at each `return` the fields read so far say which source it is. Assumes nothing.
+-- `esp32::basis` meets its contract: at each `return` the fields read so far say which basis it is. Assumes nothing.
 use borrow.Author.Needs.{needs}
-use Rattle.esp32.proofs.Sources.{no-reserve, no-low1, no-low2, no-high1, no-high2, all-codes}
-use Rattle.esp32.proofs.decode.source.Statement.{statement}
-use Rattle.esp32.proofs.decode.source.Tie as tie
+use Rattle.esp32.proofs.Bases.{no-reserve, no-low1, no-low2, no-high1, no-high2, all-codes}
+use Rattle.esp32.proofs.decode.basis.Statement.{statement}
+use Rattle.esp32.proofs.decode.basis.Tie as tie
 
 record-value-requires : tie.Need-record-value-requires
 record-value-requires c κs = search needs
@@ -68,8 +68,8 @@ returns-6 c =
     (q .if3 .left) (p .before .record-value4 .ensures) (p .if4 .left) (o .before .record-value5 .ensures) (o .if5 .left) (c .before .by-unit .ensures)
     (c .by-unit2 .ensures)
 
-pub source-spec : {M : Type 1} → statement M
-source-spec =
+pub basis-spec : {M : Type 1} → statement M
+basis-spec =
     tie.close
     (tie.spec
     record-value-requires
