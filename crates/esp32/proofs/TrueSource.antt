@@ -18,8 +18,8 @@ module _ (words : ℕ → ℕ) (dump map : List ℕ) (unit atten : ℕ) where
           λ s. whether (twoPointUsed dump map) (λ used. used) (λ none. absurd (two-point-not-vref (sym s ∙ source-vref dump map unit none))),
           λ used. source-two-point dump map unit used,
         );
-        unit = refl;
-        atten = refl;
+        of-unit = refl;
+        at-atten = refl;
       }
 
   pub true-source : TrueSource words dump map unit atten

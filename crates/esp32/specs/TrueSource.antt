@@ -12,8 +12,8 @@ use Rattle.esp32.specs.Decode.{twoPointUsed, decodeOf}
 -- a record's source is two points exactly if they are used, and Vref else; its unit and its attenuation are those that were asked for
 pub record SaysTrue (dump map : List ℕ) (unit atten : ℕ) (r : LineRecord) : Type 0 where
   pub source : (r .source ≡ TwoPoint) ↔ (twoPointUsed dump map ≡ true)
-  pub unit : r .unit ≡ unit
-  pub atten : r .atten ≡ atten
+  pub of-unit : r .unit ≡ unit
+  pub at-atten : r .atten ≡ atten
 
 -- wherever decoding answers a record
 abbrev pub TrueSource : (ℕ → ℕ) → List ℕ → List ℕ → ℕ → ℕ → Type 0
