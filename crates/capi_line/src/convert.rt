@@ -19,7 +19,7 @@ ghost use Rattle.capi.specs.Answer.{voltageC};
 // The millivolts of a count. Refusals 10, 8.
 #[no_mangle]
 pub extern "C" fn skv_convert(cal: SkvLineRecord, count: SkvCount) -> SkvVoltage
-    ensures { λ r. ⌜ r ≡ voltageC (byRecord (handed cal) (λ record. convertOf record (count .raw)) (Refused (plain 10))) ⌝ }
+    ensures { λ r. ⌜ r ≡ voltageC (byRecord (handed cal) (λ line. convertOf line (count .raw)) (Refused (plain 10))) ⌝ }
 {
     let Handed::Record(record) = record_from(cal) else {
         return voltage_c(Voltage::Refused(no_source()));

@@ -20,8 +20,8 @@ ghost use Rattle.capi_line.specs.Record.{handed, byRecord};
 // was.
 #[no_mangle]
 pub extern "C" fn skv_fill(cal: SkvLineRecord, first: SkvCount, out: &mut [u16]) -> SkvOutcome
-    ensures answer { λ r. ⌜ r ≡ outcomeC (byRecord (handed cal) (λ record. outcomeOf (fillRefusal record (first .raw) (length (now (out .entry))))) (outcomeOf 10)) ⌝ }
-    ensures lent { λ r. ⌜ now (out .exit) ≡ byRecord (handed cal) (λ record. filled record (first .raw) (now (out .entry))) (now (out .entry)) ⌝ }
+    ensures answer { λ r. ⌜ r ≡ outcomeC (byRecord (handed cal) (λ line. outcomeOf (fillRefusal line (first .raw) (length (now (out .entry))))) (outcomeOf 10)) ⌝ }
+    ensures lent { λ r. ⌜ now (out .exit) ≡ byRecord (handed cal) (λ line. filled line (first .raw) (now (out .entry))) (now (out .entry)) ⌝ }
 {
     let Handed::Record(record) = record_from(cal) else {
         return outcome_c(Outcome::Refused(no_source()));

@@ -104,7 +104,7 @@ pub(crate) const NO_RECORD: SkvLineRecord = SkvLineRecord {
 // Good where the record may be converted by. Refusal 10.
 #[no_mangle]
 pub extern "C" fn skv_check_record(cal: SkvLineRecord) -> SkvOutcome
-    ensures { λ r. ⌜ r ≡ outcomeC (byRecord (handed cal) (λ record. outcomeOf (recordRefusal record)) (outcomeOf 10)) ⌝ }
+    ensures { λ r. ⌜ r ≡ outcomeC (byRecord (handed cal) (λ line. outcomeOf (recordRefusal line)) (outcomeOf 10)) ⌝ }
 {
     let Handed::Record(record) = record_from(cal) else {
         return outcome_c(Outcome::Refused(no_source()));
