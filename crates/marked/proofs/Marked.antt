@@ -12,8 +12,8 @@ use Rattle.maps.specs.Value.{valueById}
 use Rattle.vref.specs.Coefficients.{vrefScale, vrefOffset}
 use Rattle.esp32.specs.Code.{vrefOf, twoPointCode, pointOf, lowOf, highOf}
 use Rattle.esp32.specs.Characterize.{tpScale, tpOffset, twoPointA, topOf, bOf, bRefusal, twoPointB, coefficientsOf, basisRefusal}
-use Rattle.esp32.specs.Decode.{twoPointUsed, basisOf, foundOf, decodedRecord, decodeRefusal, decodeOf}
-use Rattle.line_record.specs.Record.{usesLookup, recordRefusal}
+use Rattle.esp32.specs.Decode.{twoPointUsed, basisOf, sourceOf, foundOf, decodedRecord, decodeRefusal, decodeOf}
+use Rattle.line_record.specs.Record.{usesLookup, inRanges, hasVrefLine, fitsSource, goodRecord, recordRefusal}
 use Rattle.lut.specs.Row.{lowAt, highAt}
 use Rattle.lut.specs.Lookup.{numeratorAt, voltageAt}
 use Rattle.line.specs.Convert.{lineVoltage, blendOf, beyondLine, answerAt, convertRefusal, convertOf}
@@ -33,9 +33,9 @@ pub marked : map (λ (c : Case). c .asked) cases ≡ map (λ (c : Case). c .answ
 unfolding
     vrefOf twoPointCode pointOf lowOf highOf signMagnitude
     tpScale tpOffset vrefScale vrefOffset twoPointA topOf bOf bRefusal twoPointB coefficientsOf basisRefusal
-    usesLookup recordRefusal lowAt highAt numeratorAt voltageAt lineVoltage blendOf beyondLine answerAt convertRefusal convertOf
+    usesLookup inRanges hasVrefLine fitsSource goodRecord recordRefusal lowAt highAt numeratorAt voltageAt lineVoltage blendOf beyondLine answerAt convertRefusal convertOf
     firstOf dumpRefusal bitsOf placeRefusal fieldBits countRefusal mapRecordRefusal mapRefusal toldOf decodingRefusal valueById
-    twoPointUsed basisOf foundOf decodedRecord decodeRefusal decodeOf
+    twoPointUsed basisOf sourceOf foundOf decodedRecord decodeRefusal decodeOf
     flatten calibMap entryAt byVersion tagOf termOf within readingOf readingRefusal calibReadingOf
     versionOf versionRefusal codeRefusal offsetOf calCode calCodeOf compensOf chanCompensOf
     nearest doublings scaled magnitude coefficient tableOf horner errorOf correctedOf correctRefusal correctOf unitRefusal rawRefusal
