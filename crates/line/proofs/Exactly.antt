@@ -1,11 +1,16 @@
 -- Each number of converting is given exactly when: the record's laws come first, then the count's. Assumes nothing.
 use mathlib.Core.Path.{_≡_}
+use mathlib.Core.Bool.{_&&_}
 use Prim.Native.Nat.{ℕ, _≤_}
+use lib.Dec.{leb, eqb}
+use borrow.Author.Tests.{le-leb, lt-leb, le-ltb, lt-ltb}
 use Rattle.terms.specs.Exactly.{Exactly}
+use Rattle.terms.specs.Refusal.{rawRefusal}
 use Rattle.terms.proofs.Exactly.{Some, exactly, case, raw-exactly}
+use Rattle.terms.proofs.Order.{either, whether}
 use Rattle.terms.proofs.Refusals.{raw-inside}
 use Rattle.line_record.specs.declared.record.LineRecord.{LineRecord}
-use Rattle.line_record.specs.Record.{recordRefusal}
+use Rattle.line_record.specs.Record.{goodRecord, recordRefusal}
 use Rattle.line_record.specs.When.{RecordWhen, bad-record, good-record}
 use Rattle.line_record.proofs.Exactly.{record-exactly}
 use Rattle.line.specs.Convert.{convertRefusal}
@@ -23,6 +28,14 @@ module _ (r : LineRecord) (raw : ℕ) where
 
   pub convert-exactly : Exactly (convertRefusal r raw) (ConvertWhen r raw)
   convert-exactly = exactly convert-gives (convert-by _ (case (record-exactly r)))
+
+  -- whether nothing is refused, by one test
+  pub convert-test : goodRecord r && leb raw 4095 ≡ eqb (convertRefusal r raw) 0
+  unfolding convertRefusal recordRefusal rawRefusal
+  convert-test =
+      whether (goodRecord r)
+      (λ good. either raw 4095 (λ h. simp (good, le-leb _ _ h, le-ltb _ _ h)) (λ h. simp (good, lt-leb _ _ h, lt-ltb _ _ h)))
+      (λ bad. simp bad)
 
   -- what is known where nothing is refused
   convert-none : ConvertWhen r raw 0 → (recordRefusal r ≡ 0) × (raw ≤ 4095)

@@ -2,6 +2,7 @@
 use crate::lookup::LUT_LOW_THRESH;
 use crate::lookup::calculate_voltage_lut;
 use line_record::record::LineRecord;
+use line_record::record::good_record;
 use line_record::record::record_refusal;
 use line_record::record::uses_lookup;
 use terms::quantity::Count;
@@ -11,6 +12,7 @@ use terms::voltage::Voltage;
 ghost use mathlib.Core.Path.{_≡_};
 ghost use mathlib.Core.Bool.{true};
 ghost use Prim.Native.Nat.{_≤_};
+ghost use lib.Dec.{eqb};
 ghost use Rattle.line_record.specs.Record.{recordRefusal};
 ghost use Rattle.line.specs.Convert.{lineVoltage, meanOf, beyondLine, answerAt, convertRefusal, convertOf};
 
@@ -86,15 +88,21 @@ fn convert_refusal(cal: LineRecord, raw: u16) -> u8
     refusal::raw_refusal(raw)
 }
 
+// Whether nothing is wrong with it. Asked before what is: so the usual way has this one test.
+fn converts(cal: LineRecord, raw: u16) -> bool
+    ensures { λ r. ⌜ r ≡ eqb (convertRefusal cal raw) 0 ⌝ }
+{
+    good_record(cal) & (raw <= refusal::LAST_COUNT)
+}
+
 // The millivolts of a count, at most 12,285. Any count by any record is answered; refusals 10, 8.
 pub fn convert(cal: LineRecord, count: Count) -> Voltage
     ensures { λ r. ⌜ r ≡ convertOf cal (count .0) ⌝ }
 {
     let raw = count.0;
-    let number = convert_refusal(cal, raw);
-    if number != refusal::NONE {
-        return Voltage::Refused(refusal::plain(number));
+    if converts(cal, raw) {
+        let mv = answer(cal, raw as u32) as u16;
+        return Voltage::Value(Millivolt(mv));
     }
-    let mv = answer(cal, raw as u32) as u16;
-    Voltage::Value(Millivolt(mv))
+    Voltage::Refused(refusal::plain(convert_refusal(cal, raw)))
 }
