@@ -1,0 +1,98 @@
+//! The rows of converting and filling, by a two-point record.
+use suongkivat::raw::{SkvOutcome, SkvVoltage};
+use suongkivat::{Attenuation, Count, LineRecord, Source};
+
+use crate::calls::Calls;
+use crate::rows::{one, Bars, Bench, Row, Work, BEATEN, COUNTS, NONE, NO_VOLTAGE};
+use crate::timing::Way;
+
+/// Where the lookup alone answers.
+const LOOKUP_FIRST: u16 = 2945;
+
+const STRETCH: usize = 64;
+
+/// Counts rising from a first one on. Never compiled into a side's own code: one loop times them all.
+#[inline(never)]
+fn convert(calls: &Calls, record: LineRecord, first: u16, out: &mut [SkvVoltage]) {
+    for (raw, out) in (first..).zip(out) {
+        *out = (calls.convert)(record, Count(raw));
+    }
+}
+
+/// The whole table, in stretches of that many counts. One loop too.
+#[inline(never)]
+fn fill(calls: &Calls, record: LineRecord, stretch: usize, out: &mut [u16]) {
+    for (k, part) in out.chunks_mut(stretch).enumerate() {
+        let first = Count((stretch * k) as u16);
+        assert_eq!((calls.fill)(record, first, part.as_mut_ptr(), part.len()), SkvOutcome { refusal: NONE });
+    }
+}
+
+impl Bench {
+    /// Unit 0's record of the board of that source: at 11 dB, with the lookup, or at 6 dB, without it.
+    pub fn record(&self, source: Source, lookup: bool) -> LineRecord {
+        let (dump, map) = (self.board(source), &self.map);
+        let attenuation = if lookup { Attenuation::DB_11 } else { Attenuation::DB_6 };
+        let decoded = (self.ours.decode)(dump.as_ptr(), dump.len(), map.as_ptr(), map.len(), 0, attenuation.0);
+        assert_eq!((decoded.refusal, decoded.record.source), (NONE, source));
+        decoded.record
+    }
+
+    /// Against esp-hal's three builds, and against its release build with our two tests in front.
+    fn convert(&self, work: String, record: LineRecord, first: u16, bars: Bars, tested_bar: Option<f64>) -> [Row; 2] {
+        let blank = vec![NO_VOLTAGE; usize::from(COUNTS - first)];
+        let how: Work<SkvVoltage> = &|calls, out| convert(calls, record, first, out);
+        let plain = self.all(work.clone(), bars, &blank, how);
+        let ways: [Way<SkvVoltage>; 2] = [&|out| how(&self.ours, out), &|out| how(&self.release.tested, out)];
+        [plain, one(work, "esp-hal, with our two tests", tested_bar, &blank, ways)]
+    }
+
+    fn two_point_convert(&self, name: &str, lookup: bool, first: u16, bar: f64, tested_bar: f64) -> [Row; 2] {
+        let record = self.record(Source::TWO_POINT, lookup);
+        let bars = [Some(bar), Some(BEATEN), None];
+        self.convert(format!("convert, two-point record, {name}"), record, first, bars, Some(tested_bar))
+    }
+
+    /// Against esp-hal's three builds, and against copying a ready table.
+    fn two_point_fill(&self, name: &str, lookup: bool, stretch: usize, bar: f64, copy_bar: Option<f64>) -> [Row; 2] {
+        let record = self.record(Source::TWO_POINT, lookup);
+        let work = format!("fill, two-point record, {name}");
+        let blank = vec![0; usize::from(COUNTS)];
+        let how: Work<u16> = &|calls, out| fill(calls, record, stretch, out);
+        let plain = self.all(work.clone(), [Some(bar), Some(BEATEN), None], &blank, how);
+        let mut table = blank.clone();
+        how(&self.ours, &mut table);
+        let copy: Way<u16> = &|out| {
+            for (part, from) in out.chunks_mut(stretch).zip(table.chunks(stretch)) {
+                part.copy_from_slice(from);
+            }
+        };
+        let ours: Way<u16> = &|out| how(&self.ours, out);
+        [plain, one(work, "memcpy", copy_bar, &blank, [ours, copy])]
+    }
+
+    fn converts(&self) -> Vec<Row> {
+        let mut rows = vec![];
+        rows.extend(self.two_point_convert("lookup, counts rising", true, 0, 1.25, 1.15));
+        rows.extend(self.two_point_convert("lookup, counts 2945 and up", true, LOOKUP_FIRST, 1.25, 1.15));
+        rows.extend(self.two_point_convert("no lookup", false, 0, 1.6, 1.25));
+        rows
+    }
+
+    fn fills(&self) -> Vec<Row> {
+        let whole = usize::from(COUNTS);
+        let mut rows = vec![];
+        rows.extend(self.two_point_fill("4,096, lookup", true, whole, 0.12, Some(5.0)));
+        rows.extend(self.two_point_fill("4,096, no lookup", false, whole, 0.35, Some(5.0)));
+        rows.extend(self.two_point_fill("stretches of 64, lookup", true, STRETCH, 0.30, None));
+        rows.extend(self.two_point_fill("stretches of 64, no lookup", false, STRETCH, 0.30, None));
+        rows
+    }
+
+    /// The rows of line records.
+    pub fn line(&self) -> Vec<Row> {
+        let mut rows = self.converts();
+        rows.extend(self.fills());
+        rows
+    }
+}
