@@ -1,4 +1,4 @@
-//! The rows of converting and filling, by a two-point record.
+//! The rows of converting and filling: by a two-point record, and by a Vref record, whose a and b are held to its vref at each call.
 use suongkivat::raw::{SkvOutcome, SkvVoltage};
 use suongkivat::{Attenuation, Count, LineRecord, Source};
 
@@ -10,6 +10,11 @@ use crate::timing::Way;
 const LOOKUP_FIRST: u16 = 2945;
 
 const STRETCH: usize = 64;
+
+/// A call by a Vref record may take so much of one by a two-point record.
+const VREF_BAR: f64 = 1.15;
+
+const OURS_TWO_POINT: &str = "ours, two-point record";
 
 /// Counts rising from a first one on. Never compiled into a side's own code: one loop times them all.
 #[inline(never)]
@@ -26,6 +31,11 @@ fn fill(calls: &Calls, record: LineRecord, stretch: usize, out: &mut [u16]) {
         let first = Count((stretch * k) as u16);
         assert_eq!((calls.fill)(record, first, part.as_mut_ptr(), part.len()), SkvOutcome { refusal: NONE });
     }
+}
+
+/// The same line in a record that is two-point: it gives the same answers.
+fn as_two_point(record: LineRecord) -> LineRecord {
+    LineRecord { source: Source::TWO_POINT, ..record }
 }
 
 impl Bench {
@@ -53,6 +63,17 @@ impl Bench {
         self.convert(format!("convert, two-point record, {name}"), record, first, bars, Some(tested_bar))
     }
 
+    /// Told beside esp-hal, and held to ours by a two-point record.
+    fn vref_convert(&self, name: &str, lookup: bool, first: u16) -> [Row; 3] {
+        let record = self.record(Source::VREF, lookup);
+        let work = format!("convert, Vref record, {name}");
+        let [plain, tested] = self.convert(work.clone(), record, first, [None; 3], None);
+        let blank = vec![NO_VOLTAGE; usize::from(COUNTS - first)];
+        let ways: [Way<SkvVoltage>; 2] =
+            [&|out| convert(&self.ours, record, first, out), &|out| convert(&self.ours, as_two_point(record), first, out)];
+        [plain, tested, one(work, OURS_TWO_POINT, Some(VREF_BAR), &blank, ways)]
+    }
+
     /// Against esp-hal's three builds, and against copying a ready table.
     fn two_point_fill(&self, name: &str, lookup: bool, stretch: usize, bar: f64, copy_bar: Option<f64>) -> [Row; 2] {
         let record = self.record(Source::TWO_POINT, lookup);
@@ -71,11 +92,22 @@ impl Bench {
         [plain, one(work, "memcpy", copy_bar, &blank, [ours, copy])]
     }
 
+    /// What a call of a fill costs more by a Vref record.
+    fn vref_fill(&self, name: &str, lookup: bool, stretch: usize) -> Row {
+        let record = self.record(Source::VREF, lookup);
+        let ways: [Way<u16>; 2] =
+            [&|out| fill(&self.ours, record, stretch, out), &|out| fill(&self.ours, as_two_point(record), stretch, out)];
+        one(format!("fill, Vref record, {name}"), OURS_TWO_POINT, None, &vec![0; usize::from(COUNTS)], ways)
+    }
+
     fn converts(&self) -> Vec<Row> {
         let mut rows = vec![];
         rows.extend(self.two_point_convert("lookup, counts rising", true, 0, 1.25, 1.15));
         rows.extend(self.two_point_convert("lookup, counts 2945 and up", true, LOOKUP_FIRST, 1.25, 1.15));
         rows.extend(self.two_point_convert("no lookup", false, 0, 1.6, 1.25));
+        rows.extend(self.vref_convert("lookup, counts rising", true, 0));
+        rows.extend(self.vref_convert("lookup, counts 2945 and up", true, LOOKUP_FIRST));
+        rows.extend(self.vref_convert("no lookup", false, 0));
         rows
     }
 
@@ -86,6 +118,10 @@ impl Bench {
         rows.extend(self.two_point_fill("4,096, no lookup", false, whole, 0.35, Some(5.0)));
         rows.extend(self.two_point_fill("stretches of 64, lookup", true, STRETCH, 0.30, None));
         rows.extend(self.two_point_fill("stretches of 64, no lookup", false, STRETCH, 0.30, None));
+        rows.push(self.vref_fill("4,096, lookup", true, whole));
+        rows.push(self.vref_fill("4,096, no lookup", false, whole));
+        rows.push(self.vref_fill("stretches of 64, lookup", true, STRETCH));
+        rows.push(self.vref_fill("stretches of 64, no lookup", false, STRETCH));
         rows
     }
 
