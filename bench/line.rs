@@ -1,4 +1,6 @@
 //! The rows of converting and filling: by a two-point record, and by a Vref record, whose a and b are held to its vref at each call.
+use std::hint::black_box;
+
 use suongkivat::raw::{SkvOutcome, SkvVoltage};
 use suongkivat::{Attenuation, Count, LineRecord, Source};
 
@@ -16,17 +18,25 @@ const VREF_BAR: f64 = 1.15;
 
 const OURS_TWO_POINT: &str = "ours, two-point record";
 
-/// Counts rising from a first one on. Never compiled into a side's own code: one loop times them all.
+/// What a loop calls: every side in its turn, or ours alone. A processor that has met several targets at one place may take half a
+/// nanosecond more for each later call from there; a short call shows it, a longer one hides it, and it comes and goes. So where ours is
+/// held to ours, the loop is one that has no other target, as a caller's own has.
+const ALL: bool = false;
+const ALONE: bool = true;
+
+/// Counts rising from a first one on. Never compiled into a side's own code: sides that are timed together have one loop.
 #[inline(never)]
-fn convert(calls: &Calls, record: LineRecord, first: u16, out: &mut [SkvVoltage]) {
+fn convert<const WHOSE: bool>(calls: &Calls, record: LineRecord, first: u16, out: &mut [SkvVoltage]) {
+    black_box(WHOSE); // else the two loops are the same, and are made one
     for (raw, out) in (first..).zip(out) {
         *out = (calls.convert)(record, Count(raw));
     }
 }
 
-/// The whole table, in stretches of that many counts. One loop too.
+/// The whole table, in stretches of that many counts; the same of its loops.
 #[inline(never)]
-fn fill(calls: &Calls, record: LineRecord, stretch: usize, out: &mut [u16]) {
+fn fill<const WHOSE: bool>(calls: &Calls, record: LineRecord, stretch: usize, out: &mut [u16]) {
+    black_box(WHOSE);
     for (k, part) in out.chunks_mut(stretch).enumerate() {
         let first = Count((stretch * k) as u16);
         assert_eq!((calls.fill)(record, first, part.as_mut_ptr(), part.len()), SkvOutcome { refusal: NONE });
@@ -51,7 +61,7 @@ impl Bench {
     /// Against esp-hal's three builds, and against its release build with our two tests in front.
     fn convert(&self, work: String, record: LineRecord, first: u16, bars: Bars, tested_bar: Option<f64>) -> [Row; 2] {
         let blank = vec![NO_VOLTAGE; usize::from(COUNTS - first)];
-        let how: Work<SkvVoltage> = &|calls, out| convert(calls, record, first, out);
+        let how: Work<SkvVoltage> = &|calls, out| convert::<ALL>(calls, record, first, out);
         let plain = self.all(work.clone(), bars, &blank, how);
         let ways: [Way<SkvVoltage>; 2] = [&|out| how(&self.ours, out), &|out| how(&self.release.tested, out)];
         [plain, one(work, "esp-hal, with our two tests", tested_bar, &blank, ways)]
@@ -69,8 +79,8 @@ impl Bench {
         let work = format!("convert, Vref record, {name}");
         let [plain, tested] = self.convert(work.clone(), record, first, [None; 3], None);
         let blank = vec![NO_VOLTAGE; usize::from(COUNTS - first)];
-        let ways: [Way<SkvVoltage>; 2] =
-            [&|out| convert(&self.ours, record, first, out), &|out| convert(&self.ours, as_two_point(record), first, out)];
+        let ours = |record| move |out: &mut [SkvVoltage]| convert::<ALONE>(&self.ours, record, first, out);
+        let ways: [Way<SkvVoltage>; 2] = [&ours(record), &ours(as_two_point(record))];
         [plain, tested, one(work, OURS_TWO_POINT, Some(VREF_BAR), &blank, ways)]
     }
 
@@ -79,7 +89,7 @@ impl Bench {
         let record = self.record(Source::TWO_POINT, lookup);
         let work = format!("fill, two-point record, {name}");
         let blank = vec![0; usize::from(COUNTS)];
-        let how: Work<u16> = &|calls, out| fill(calls, record, stretch, out);
+        let how: Work<u16> = &|calls, out| fill::<ALL>(calls, record, stretch, out);
         let plain = self.all(work.clone(), [Some(bar), Some(BEATEN), None], &blank, how);
         let mut table = blank.clone();
         how(&self.ours, &mut table);
@@ -95,8 +105,8 @@ impl Bench {
     /// What a call of a fill costs more by a Vref record.
     fn vref_fill(&self, name: &str, lookup: bool, stretch: usize) -> Row {
         let record = self.record(Source::VREF, lookup);
-        let ways: [Way<u16>; 2] =
-            [&|out| fill(&self.ours, record, stretch, out), &|out| fill(&self.ours, as_two_point(record), stretch, out)];
+        let ours = |record| move |out: &mut [u16]| fill::<ALONE>(&self.ours, record, stretch, out);
+        let ways: [Way<u16>; 2] = [&ours(record), &ours(as_two_point(record))];
         one(format!("fill, Vref record, {name}"), OURS_TWO_POINT, None, &vec![0; usize::from(COUNTS)], ways)
     }
 
