@@ -1,9 +1,9 @@
 //! What the binding for Rust costs: a call through bindings/rust, linked as a Rust program links it, against the same call for C. Both
 //! sides look at the number of each answer, and stop where one is refused.
 use suongkivat::raw::SkvRefusal;
-use suongkivat::{correct, Attenuation, Chip, Count, LineRecord, Millivolt, Unit};
+use suongkivat::{correct, Attenuation, Chip, Count, LineRecord, Millivolt, Source, Unit};
 
-use crate::rows::{fields, mixed_dump, one, Bench, Row, COUNTS, DB11};
+use crate::rows::{fields, mixed_dump, one, Bench, Row, COUNTS};
 use crate::timing::Way;
 
 /// By the place of a function alone a call can cost so much more or less.
@@ -56,7 +56,7 @@ impl Bench {
     }
 
     fn binding_converts(&self) -> Row {
-        let (record, convert) = (self.record(true), self.ours.convert);
+        let (record, convert) = (self.record(Source::TWO_POINT, true), self.ours.convert);
         let ours: Way<Millivolt> = &|out| {
             for (raw, out) in (0..).zip(out) {
                 *out = record.convert(Count(raw)).expect(GOOD);
@@ -68,30 +68,30 @@ impl Bench {
                 *out = taken(answer.refusal, answer.voltage);
             }
         };
-        row("convert, lookup, counts rising", COUNTS.into(), [ours, c])
+        row("convert, two-point record, lookup, counts rising", COUNTS.into(), [ours, c])
     }
 
     fn binding_fills(&self) -> Row {
-        let (record, fill) = (self.record(true), self.ours.fill);
+        let (record, fill) = (self.record(Source::TWO_POINT, true), self.ours.fill);
         let ours: Way<Millivolt> = &|out| record.fill(Count(0), out).expect(GOOD);
         let c: Way<Millivolt> = &|out| {
             let outcome = fill(record, Count(0), out.as_mut_ptr().cast(), out.len());
             taken(outcome.refusal, ());
         };
-        row("fill, 4,096, lookup", COUNTS.into(), [ours, c])
+        row("fill, two-point record, 4,096, lookup", COUNTS.into(), [ours, c])
     }
 
     fn binding_corrects(&self) -> Row {
         let call = self.ours.correct;
-        let (chip, unit) = (Chip::S3, Unit::ADC1);
+        let (chip, unit, attenuation) = (Chip::S3, Unit::ADC1, Attenuation::DB_11);
         let ours: Way<Millivolt> = &|out| {
             for (mv, out) in (0..).zip(out) {
-                *out = correct(chip, 0, unit, Attenuation(DB11), Millivolt(mv)).expect(GOOD);
+                *out = correct(chip, 0, unit, attenuation, Millivolt(mv)).expect(GOOD);
             }
         };
         let c: Way<Millivolt> = &|out| {
             for (mv, out) in (0..).zip(out) {
-                let answer = call(chip.0, 0, unit.0, DB11, Millivolt(mv));
+                let answer = call(chip.0, 0, unit.0, attenuation.0, Millivolt(mv));
                 *out = taken(answer.refusal, answer.voltage);
             }
         };

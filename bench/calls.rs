@@ -4,7 +4,7 @@ use std::ffi::{c_char, c_int, c_void, CString};
 use std::mem;
 
 use suongkivat::raw::{SkvDecoded, SkvOutcome, SkvRead, SkvVoltage};
-use suongkivat::{Count, Field, LineRecord, Millivolt};
+use suongkivat::{Count, Field, LineRecord, Millivolt, Source};
 
 extern "C" {
     fn dlopen(path: *const c_char, flags: c_int) -> *mut c_void;
@@ -19,6 +19,7 @@ pub type NewCal = extern "C" fn(u8, u8) -> SkvDecoded;
 pub type Convert = extern "C" fn(LineRecord, Count) -> SkvVoltage;
 pub type Fill = extern "C" fn(LineRecord, Count, *mut u16, usize) -> SkvOutcome;
 pub type Correct = extern "C" fn(u8, u8, u8, u8, Millivolt) -> SkvVoltage;
+pub type TellSource = extern "C" fn(Source);
 type Load = extern "C" fn(*const u32, u8);
 
 struct Object(*mut c_void);
@@ -84,6 +85,8 @@ pub struct Crate {
     /// The same calls with our two tests in front of `convert`.
     pub tested: Calls,
     pub new_cal: NewCal,
+    /// Says what its decodings give as their source.
+    pub tell_source: TellSource,
 }
 
 impl Crate {
@@ -91,6 +94,6 @@ impl Crate {
         let object = Object::open(path);
         let calls = Calls::of(&object, object.find("load"));
         let tested = Calls { convert: object.find("tested_convert"), ..calls };
-        Self { calls, tested, new_cal: object.find("new_cal") }
+        Self { calls, tested, new_cal: object.find("new_cal"), tell_source: object.find("tell_source") }
     }
 }

@@ -1,6 +1,7 @@
 //! esp-hal's own functions behind the calls of include/suongkivat.h: the same names, structs by value and lent lists, so that they
 //! are called just as ours are. Nothing is checked and nothing refused, as in esp-hal. Built once for each build of esp-hal.
 use std::slice;
+use std::sync::atomic::{AtomicU8, Ordering};
 
 use esp32::analog::adc::{AdcCalLine, AdcCalScheme};
 use esp32::efuse::Home;
@@ -8,7 +9,7 @@ use esp32::peripherals::{ADC1, ADC2};
 use oracle::line::Record;
 use oracle::rules;
 use suongkivat::raw::{SkvDecoded, SkvOutcome, SkvRead, SkvRefusal, SkvVoltage};
-use suongkivat::{Count, Field, LineRecord, Millivolt, Unit};
+use suongkivat::{Attenuation, Count, Field, LineRecord, Millivolt, Source, Unit};
 
 const NONE: SkvRefusal = SkvRefusal { number: 0, record: 0, place: 0 };
 
@@ -35,19 +36,29 @@ read_field!(skv_read_field_u8, u8);
 read_field!(skv_read_field_u16, u16);
 read_field!(skv_read_field_u32, u32);
 
-fn decoded<ADCX>(line: AdcCalLine<ADCX>) -> SkvDecoded {
-    let (coeff_a, coeff_b, vref, unit, use_lut) = line.taken_apart();
-    SkvDecoded { refusal: NONE, record: LineRecord { coeff_a, coeff_b, vref, unit: Unit(unit), use_lut: use_lut.into() } }
+/// esp-hal's record doesn't tell where a and b come from. What is said of a board's stands here before it is decoded.
+static SOURCE: AtomicU8 = AtomicU8::new(0);
+
+#[no_mangle]
+pub extern "C" fn tell_source(source: Source) {
+    SOURCE.store(source.0, Ordering::Relaxed);
+}
+
+fn decoded<ADCX>(line: AdcCalLine<ADCX>, atten: u8) -> SkvDecoded {
+    let (coeff_a, coeff_b, vref, unit, _) = line.taken_apart();
+    let source = Source(SOURCE.load(Ordering::Relaxed));
+    let record = LineRecord { coeff_a, coeff_b, vref, unit: Unit(unit), attenuation: Attenuation(atten), source };
+    SkvDecoded { refusal: NONE, record }
 }
 
 /// `new_cal`, with its fields where they stand in esp-hal.
 #[no_mangle]
 pub extern "C" fn new_cal(unit: u8, atten: u8) -> SkvDecoded {
-    let atten = esp32::reach::attenuation(atten);
+    let attenuation = esp32::reach::attenuation(atten);
     if unit == 0 {
-        decoded(AdcCalLine::<ADC1>::new_cal(atten))
+        decoded(AdcCalLine::<ADC1>::new_cal(attenuation), atten)
     } else {
-        decoded(AdcCalLine::<ADC2>::new_cal(atten))
+        decoded(AdcCalLine::<ADC2>::new_cal(attenuation), atten)
     }
 }
 
@@ -66,8 +77,8 @@ pub unsafe extern "C" fn skv_decode(
 }
 
 fn record(cal: LineRecord) -> Record {
-    let LineRecord { coeff_a, coeff_b, vref, unit: Unit(unit), use_lut } = cal;
-    Record { coeff_a, coeff_b, vref, unit, use_lut: use_lut != 0 }
+    let LineRecord { coeff_a, coeff_b, vref, unit: Unit(unit), attenuation: Attenuation(atten), source: Source(source) } = cal;
+    Record { coeff_a, coeff_b, vref, unit, atten, source }
 }
 
 /// `adc_val`.
@@ -76,7 +87,7 @@ pub extern "C" fn skv_convert(cal: LineRecord, count: Count) -> SkvVoltage {
     SkvVoltage { refusal: NONE, voltage: Millivolt(record(cal).line().adc_val(count.0)) }
 }
 
-/// The same with the two tests in front that ours makes too, as Rust writes them.
+/// The same with the two tests in front that ours makes too, the record's and the count's, as Rust writes them.
 #[no_mangle]
 pub extern "C" fn tested_convert(cal: LineRecord, count: Count) -> SkvVoltage {
     match rules::record(record(cal)).and_then(|()| rules::raw(count.0)) {

@@ -2,6 +2,7 @@
 //! them.
 mod binding;
 mod calls;
+mod line;
 mod rows;
 mod timing;
 

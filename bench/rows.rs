@@ -1,37 +1,31 @@
 //! The rows of the table: what is timed, on which inputs, against what, with which bar.
 use std::fs;
 
-use suongkivat::raw::{SkvDecoded, SkvOutcome, SkvRead, SkvRefusal, SkvVoltage};
-use suongkivat::{Count, Field, LineRecord, Millivolt, Unit};
+use suongkivat::raw::{SkvDecoded, SkvRead, SkvRefusal, SkvVoltage};
+use suongkivat::{Attenuation, Field, LineRecord, Millivolt, Source, Unit};
 
 use crate::calls::{Calls, Crate, ReadField};
 use crate::timing::{contest, Outcome, Ratio, Side, Way};
 
 pub const COUNTS: u16 = 4096;
 
-/// Where the lookup alone answers.
-const LOOKUP_FIRST: u16 = 2945;
-
-const STRETCH: usize = 64;
-
 /// Dumps that a bedside tablet loads.
 const DUMPS: u32 = 200;
-
-pub const DB11: u8 = 3;
 
 /// A C6 takes its second table.
 const MINOR: u8 = 2;
 
 /// The overflow-checked build is to be beaten.
-const BEATEN: f64 = 0.99;
+pub const BEATEN: f64 = 0.99;
 
 /// Bars against esp-hal's three builds: for release, the same with overflow checks, and for release with fat LTO.
-type Bars = [Option<f64>; 3];
+pub type Bars = [Option<f64>; 3];
 
-const NONE: SkvRefusal = SkvRefusal { number: 0, record: 0, place: 0 };
+pub const NONE: SkvRefusal = SkvRefusal { number: 0, record: 0, place: 0 };
 const NO_READ: SkvRead = SkvRead { refusal: NONE, value: 0 };
-const NO_VOLTAGE: SkvVoltage = SkvVoltage { refusal: NONE, voltage: Millivolt(0) };
-const NO_RECORD: LineRecord = LineRecord { coeff_a: 0, coeff_b: 0, vref: 0, unit: Unit(0), use_lut: 0 };
+pub const NO_VOLTAGE: SkvVoltage = SkvVoltage { refusal: NONE, voltage: Millivolt(0) };
+const NO_RECORD: LineRecord =
+    LineRecord { coeff_a: 0, coeff_b: 0, vref: 0, unit: Unit(0), attenuation: Attenuation(0), source: Source(0) };
 
 /// A ratio, and the bar that it is held to.
 pub struct Held {
@@ -64,11 +58,11 @@ impl Row {
 }
 
 /// A work as each set of calls does it.
-type Work<'a, A> = &'a dyn Fn(&Calls, &mut [A]);
+pub type Work<'a, A> = &'a dyn Fn(&Calls, &mut [A]);
 
 pub struct Bench {
     pub ours: Calls,
-    release: Crate,
+    pub release: Crate,
     checked: Crate,
     whole: Crate,
     pub field: [u32; 88],
@@ -131,11 +125,22 @@ impl Bench {
         }
     }
 
+    /// The board whose a and b come from there, of either unit.
+    pub fn board(&self, source: Source) -> &[u32; 88] {
+        if source == Source::VREF {
+            &self.reference
+        } else {
+            &self.field
+        }
+    }
+
+    fn builds(&self) -> [&Crate; 3] {
+        [&self.release, &self.checked, &self.whole]
+    }
+
     /// Makes a dump esp-hal's, in each build.
     fn load(&self, dump: &[u32; 88]) {
-        for build in [&self.release, &self.checked, &self.whole] {
-            build.calls.load(dump, MINOR);
-        }
+        self.builds().iter().for_each(|build| build.calls.load(dump, MINOR));
     }
 
     /// A work against esp-hal's three builds, without what doesn't count of it.
@@ -149,7 +154,7 @@ impl Bench {
     }
 
     /// A work that counts as a whole.
-    fn all<A: Clone + PartialEq>(&self, work: String, bars: Bars, blank: &[A], how: Work<A>) -> Row {
+    pub fn all<A: Clone + PartialEq>(&self, work: String, bars: Bars, blank: &[A], how: Work<A>) -> Row {
         self.counted(work, bars, blank, how, &|_, _| ())
     }
 
@@ -186,10 +191,12 @@ impl Bench {
         self.counted(work, [Some(0.45), None, None], &blank, how, loads)
     }
 
-    /// Decoding each unit at each attenuation, by a map; and against esp-hal's alone, whose fields hold then what the map's did.
-    fn decode(&self, name: &str, dump: &[u32; 88], bars: Bars) -> [Row; 2] {
+    /// Decoding each unit at each attenuation, by a map; and against esp-hal's alone, whose fields hold then what the map's did. Its
+    /// record has no source, so it is told the board's, which doesn't count.
+    fn decode(&self, name: &str, source: Source, bars: Bars) -> [Row; 2] {
+        let (dump, map) = (self.board(source), &self.map);
         self.load(dump);
-        let map = &self.map;
+        self.builds().iter().for_each(|build| (build.tell_source)(source));
         let blank = vec![SkvDecoded { refusal: NONE, record: NO_RECORD }; 512];
         let how: Work<SkvDecoded> = &|calls, out| {
             for (k, out) in (0..8).cycle().zip(out) {
@@ -205,52 +212,6 @@ impl Bench {
             }
         };
         [mapped, one(format!("decode, {name}"), "new_cal, fields fixed, no map", None, &blank, [ours, fixed])]
-    }
-
-    /// The field board's record of unit 0 at 11 dB, with the lookup or without.
-    pub fn record(&self, lookup: bool) -> LineRecord {
-        let dump = &self.field;
-        let decoded = (self.ours.decode)(dump.as_ptr(), dump.len(), self.map.as_ptr(), self.map.len(), 0, DB11);
-        assert_eq!(decoded.refusal, NONE);
-        LineRecord { use_lut: lookup.into(), ..decoded.record }
-    }
-
-    /// Counts rising from a first one on.
-    fn convert(&self, name: &str, lookup: bool, first: u16, bar: f64, tested_bar: f64) -> [Row; 2] {
-        let record = self.record(lookup);
-        let work = format!("convert, {name}");
-        let blank = vec![NO_VOLTAGE; usize::from(COUNTS - first)];
-        let how: Work<SkvVoltage> = &|calls, out| {
-            for (raw, out) in (first..).zip(out) {
-                *out = (calls.convert)(record, Count(raw));
-            }
-        };
-        let plain = self.all(work.clone(), [Some(bar), Some(BEATEN), None], &blank, how);
-        let ways: [Way<SkvVoltage>; 2] = [&|out| how(&self.ours, out), &|out| how(&self.release.tested, out)];
-        [plain, one(work, "esp-hal, with our two tests", Some(tested_bar), &blank, ways)]
-    }
-
-    /// The whole table, in stretches of that many counts.
-    fn fill(&self, name: &str, lookup: bool, stretch: usize, bar: f64, copy_bar: Option<f64>) -> [Row; 2] {
-        let record = self.record(lookup);
-        let work = format!("fill, {name}");
-        let blank = vec![0; usize::from(COUNTS)];
-        let how: Work<u16> = &|calls, out| {
-            for (k, part) in out.chunks_mut(stretch).enumerate() {
-                let first = Count((stretch * k) as u16);
-                assert_eq!((calls.fill)(record, first, part.as_mut_ptr(), part.len()), SkvOutcome { refusal: NONE });
-            }
-        };
-        let plain = self.all(work.clone(), [Some(bar), Some(BEATEN), None], &blank, how);
-        let mut table = blank.clone();
-        how(&self.ours, &mut table);
-        let copy: Way<u16> = &|out| {
-            for (part, from) in out.chunks_mut(stretch).zip(table.chunks(stretch)) {
-                part.copy_from_slice(from);
-            }
-        };
-        let ours: Way<u16> = &|out| how(&self.ours, out);
-        [plain, one(work, "memcpy", copy_bar, &blank, [ours, copy])]
     }
 
     /// A curve at every line answer; the table is selected in the call.
@@ -280,22 +241,15 @@ impl Bench {
     }
 
     pub fn rows(&self) -> Vec<Row> {
-        let whole = usize::from(COUNTS);
         let mut rows = vec![
             self.read_field(8, None, |calls| calls.read_field_u8),
             self.read_field(16, None, |calls| calls.read_field_u16),
             self.read_field(32, Some(0.45), |calls| calls.read_field_u32),
             self.mapped_fields(),
         ];
-        rows.extend(self.decode("two-point", &self.field, [Some(0.75), Some(BEATEN), Some(0.95)]));
-        rows.extend(self.decode("Vref", &self.reference, [Some(0.9), Some(BEATEN), None]));
-        rows.extend(self.convert("lookup, counts rising", true, 0, 1.25, 1.15));
-        rows.extend(self.convert("lookup, counts 2945 and up", true, LOOKUP_FIRST, 1.25, 1.15));
-        rows.extend(self.convert("no lookup", false, 0, 1.6, 1.25));
-        rows.extend(self.fill("4,096, lookup", true, whole, 0.12, Some(5.0)));
-        rows.extend(self.fill("4,096, no lookup", false, whole, 0.35, Some(5.0)));
-        rows.extend(self.fill("stretches of 64, lookup", true, STRETCH, 0.30, None));
-        rows.extend(self.fill("stretches of 64, no lookup", false, STRETCH, 0.30, None));
+        rows.extend(self.decode("two-point", Source::TWO_POINT, [Some(0.75), Some(BEATEN), Some(0.95)]));
+        rows.extend(self.decode("Vref", Source::VREF, [Some(0.9), Some(BEATEN), None]));
+        rows.extend(self.line());
         rows.extend(self.curves());
         rows.extend(self.binding());
         rows

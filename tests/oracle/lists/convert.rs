@@ -1,6 +1,6 @@
 //! ESP32 line calibration: converting and filling.
 use oracle::codes::{Codes, UNITS};
-use oracle::line::Record;
+use oracle::line::{Record, TWO_POINT};
 use oracle::noise::Noise;
 use oracle::rules::number;
 use oracle::{answers, records};
@@ -22,31 +22,61 @@ fn decoded_records(noise: &mut Noise) -> Vec<Record> {
     records
 }
 
-fn put_record(list: &mut List, record: Record) -> &mut List {
-    list.u32(record.coeff_a).u32(record.coeff_b).u32(record.vref).u8(record.unit).u8(record.use_lut.into())
-}
+/// A record and a count.
+type Case = (Record, u16);
 
 /// Records at the counts where the answer changes its way, and at others that each record draws.
-pub fn convert() -> List {
-    let mut list = List::new("line_cases", "convert", 20);
-    let noise = &mut Noise::new(5);
+fn good_cases(noise: &mut Noise) -> Vec<Case> {
     let joints: Vec<u16> = (1..19).flat_map(|k| [0, 1, 2].map(|side| 2880 + 64 * k + side - 1)).collect();
     let turns = [0, 1, 2879, 2880, 2881, 2911, 2912, 2913, 2943, 2944, 2945, 4094, 4095, 4096, 65535];
-    let mut one = |record, raw| {
-        let answer = answers::convert(record, raw);
-        put_record(&mut list, record).u16(raw).u8(number(&answer)).u8(0).u16(answer.unwrap_or(0));
-    };
     let mut records = decoded_records(noise);
     records.extend(records::made(noise));
+    let mut cases = Vec::new();
     for record in records {
-        turns.iter().for_each(|raw| one(record, *raw));
-        (0..6).for_each(|_| one(record, noise.pick(&joints)));
-        (0..5).for_each(|_| one(record, noise.below(4096) as u16));
-        (0..3).for_each(|_| one(record, noise.within(2880, 2944) as u16));
-        one(record, noise.within(4096, 65535) as u16);
+        cases.extend(turns.map(|raw| (record, raw)));
+        cases.extend((0..6).map(|_| (record, noise.pick(&joints))));
+        cases.extend((0..5).map(|_| (record, noise.below(4096) as u16)));
+        cases.extend((0..3).map(|_| (record, noise.within(2880, 2944) as u16)));
+        cases.push((record, noise.within(4096, 65535) as u16));
     }
+    cases
+}
+
+/// Every record by Vref at a count, more often than not one where the lookup counts, and the lines beside its own, which are refused
+/// with 10, at good counts and past the last.
+fn vref_cases(noise: &mut Noise) -> Vec<Case> {
+    let mut cases = Vec::new();
+    for record in records::all_by_vref() {
+        let (first, last) = noise.pick(&[(0, 4095), (2880, 2944), (2945, 4095)]);
+        cases.push((record, noise.within(first, last) as u16));
+        for beside in records::beside(record) {
+            let count = noise.below(4096) as u16;
+            cases.push((beside, noise.pick(&[count, count, 4096, 65535])));
+        }
+    }
+    cases
+}
+
+/// Lines of Vref under another unit, attenuation and Vref, and records with a part outside its range, on both sides of the last count.
+fn refused_cases() -> Vec<Case> {
+    let ends = [995, 1100, 1205].into_iter();
+    let keys = ends.flat_map(|vref| records::keys().map(move |(unit, atten)| records::by_vref(vref, unit, atten)));
+    let mut cases: Vec<Case> = keys.flat_map(records::exchanged).map(|record| (record, 2912)).collect();
     for record in records::outside() {
-        [0, 2880, 4095, 4096].into_iter().for_each(|raw| one(record, raw));
+        cases.extend([0, 2880, 4095, 4096].map(|raw| (record, raw)));
+    }
+    cases
+}
+
+pub fn convert() -> List {
+    let mut list = List::new("line_cases", "convert", 24);
+    let noise = &mut Noise::new(5);
+    let mut cases = good_cases(noise);
+    cases.extend(vref_cases(noise));
+    cases.extend(refused_cases());
+    for (record, raw) in cases {
+        let answer = answers::convert(record, raw);
+        list.put(&record.bytes()).u16(raw).u8(number(&answer)).u8(0).u16(answer.unwrap_or(0)).zeros(2);
     }
     list
 }
@@ -72,21 +102,23 @@ pub fn fill() -> List {
         let codes = Codes::any(noise, reserve).with(unit, 5, 9).with_vref(vref);
         records.push(codes.decoded(unit, atten).expect("codes that decode"));
     }
-    for (coeff_a, coeff_b, vref, unit, use_lut) in [
-        (131071, 4095, 995, 0, true),
-        (131071, 4095, 1205, 1, false),
-        (0, 0, 1205, 1, true),
-        (0, 4095, 995, 0, false),
-        (1, 0, 1000, 1, true),
-        (65536, 0, 1200, 0, true),
-        (65535, 1, 1100, 0, false),
-        (98303, 2047, 1205, 0, true),
-        (32767, 300, 995, 1, true),
+    for (coeff_a, coeff_b, vref, unit, atten) in [
+        (131071, 4095, 995, 0, 3),
+        (131071, 4095, 1205, 1, 0),
+        (0, 0, 1205, 1, 3),
+        (0, 4095, 995, 0, 1),
+        (1, 0, 1000, 1, 3),
+        (65536, 0, 1200, 0, 3),
+        (65535, 1, 1100, 0, 2),
+        (98303, 2047, 1205, 0, 3),
+        (32767, 300, 995, 1, 3),
     ] {
-        records.push(Record { coeff_a, coeff_b, vref, unit, use_lut });
+        records.push(Record { coeff_a, coeff_b, vref, unit, atten, source: TWO_POINT });
     }
+    // Vrefs that no code gives.
+    records.extend([(996, 0), (1204, 1)].map(|(vref, unit)| records::by_vref(vref, unit, 3)));
     for record in records {
-        put_record(&mut list, record).zeros(2);
+        list.put(&record.bytes());
         for mv in answers::fill(record, 0, 4096).expect("a good record") {
             list.u16(mv);
         }
@@ -96,13 +128,14 @@ pub fn fill() -> List {
 
 /// Stretches at the ends of the table and across the blend; the sum of what is written stands for it.
 pub fn stretches() -> List {
-    let mut list = List::new("line_cases", "stretches", 24);
+    let mut list = List::new("line_cases", "stretches", 28);
     let noise = &mut Noise::new(7);
     let mut records = records::made(noise);
     records.extend(decoded_records(noise));
-    let mut one = |record, first: u16, n: u16| {
+    let by_vref = records::all_by_vref();
+    let mut one = |record: Record, first: u16, n: u16| {
         let answer = answers::fill(record, first, n.into());
-        put_record(&mut list, record).u16(first).u16(n).u8(number(&answer)).u8(0);
+        list.put(&record.bytes()).u16(first).u16(n).u8(number(&answer)).zeros(3);
         list.u32(answer.unwrap_or_default().into_iter().map(u32::from).sum());
     };
     let ends = [(0, 0), (0, 1), (0, 4096), (0, 4097), (1, 4095), (1, 4096), (4095, 1), (4095, 2), (4096, 0), (4096, 1)];
@@ -111,6 +144,10 @@ pub fn stretches() -> List {
     for (first, n) in ends.into_iter().chain(past).chain(blend) {
         (0..6).for_each(|_| one(noise.pick(&records), first, n));
         one(noise.pick(&records::outside()), first, n);
+        let record = noise.pick(&by_vref);
+        one(record, first, n);
+        one(noise.pick(&records::beside(record)), first, n);
+        one(noise.pick(&records::exchanged(record)), first, n);
     }
     for _ in 0..80 {
         let first = noise.below(4097);

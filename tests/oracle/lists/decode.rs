@@ -3,7 +3,6 @@ use std::collections::BTreeSet;
 
 use oracle::codes::{ATTENS, Codes, UNITS};
 use oracle::dumps::{Builder, any_words, lent};
-use oracle::line::Record;
 use oracle::maps::{changed, map_faults, of_length, spoil};
 use oracle::noise::Noise;
 use oracle::plain::dump_and_map;
@@ -165,9 +164,8 @@ impl Asked {
         list.put(&map).u8(length as u8).u8(words).u8(unit).u8(atten);
         let answer = answers::decode(&lent(&dump.dump, words), &of_length(map, length), unit, atten);
         let [number, record, place] = refusal_bytes(&answer);
-        let none = Record { coeff_a: 0, coeff_b: 0, vref: 0, unit: 0, use_lut: false };
-        let got = answer.unwrap_or(none);
-        list.u8(number).u8(got.use_lut.into()).u16(got.vref as u16).u32(got.coeff_a).u32(got.coeff_b);
+        let got = answer.unwrap_or_default();
+        list.u8(number).u8(got.source).u16(got.vref as u16).u32(got.coeff_a).u32(got.coeff_b);
         list.u8(record).u8(place).zeros(2);
     }
 }

@@ -2,11 +2,11 @@
 //! the crate's own polynomial document 01 has only the rule for the coefficients.
 use oracle::curve::{self, Chip};
 use oracle::fields::{self, Field};
-use oracle::line::{self, Record};
+use oracle::line::{self, Record, TWO_POINT, VREF};
 use oracle::noise::Noise;
 use oracle::plain::dump_and_map;
 use oracle::rules::MapChip;
-use oracle::{c6, document, s2};
+use oracle::{c6, document, records, s2};
 
 /// How many answers were compared, and how many of them differ.
 struct Tally {
@@ -34,7 +34,7 @@ impl Tally {
 
 /// How many answers differ.
 pub fn all() -> u64 {
-    let parts = [marked, fields, vref, two_point, convert, s2_readings, s2_codes, c6_codes];
+    let parts = [marked, fields, vref, vref_lines, two_point, convert, s2_readings, s2_codes, c6_codes];
     parts.iter().map(|part| part()).sum()
 }
 
@@ -55,12 +55,12 @@ fn marked_line(tally: &mut Tally) {
     for (code, vref) in [(0x00, 1100), (0x10, 1100), (0x0F, 1205), (0x1F, 995)] {
         tally.same(decode([code, 0, 0, 0, 0, 0]).map(|record| record.vref), Some(vref));
     }
-    let by_vref = Record { coeff_a: 52798, coeff_b: 142, vref: 1100, unit: 0, use_lut: true };
+    let by_vref = Record { coeff_a: 52798, coeff_b: 142, vref: 1100, unit: 0, atten: 3, source: VREF };
     tally.same(decode([0; 6]), Some(by_vref));
     for (raw, mv) in [(0, 142), (2880, 2462), (2912, 2483), (2944, 2502), (4095, 3134)] {
         tally.same(line::convert(by_vref, raw), Ok(mv));
     }
-    tally.same(decode([0, 1, 1, 1, 1, 1]), Some(Record { coeff_a: 52567, coeff_b: 138, ..by_vref }));
+    tally.same(decode([0, 1, 1, 1, 1, 1]), Some(Record { coeff_a: 52567, coeff_b: 138, source: TWO_POINT, ..by_vref }));
     marked_underflow(tally);
 }
 
@@ -118,10 +118,16 @@ fn fields() -> u64 {
     tally.report()
 }
 
-fn record((coeff_a, coeff_b): (i64, i64), vref: u32, unit: usize, atten: usize) -> Record {
-    let coefficient = |x: i64| u32::try_from(x).expect("a coefficient");
-    let (coeff_a, coeff_b) = (coefficient(coeff_a), coefficient(coeff_b));
-    Record { coeff_a, coeff_b, vref: document::vref(vref) as u32, unit: unit as u8, use_lut: atten == 3 }
+/// The record of a and b from a source.
+fn record(source: u8, (coeff_a, coeff_b): (i64, i64), vref: i64, unit: usize, atten: usize) -> Record {
+    let number = |x: i64| u32::try_from(x).expect("a number of a record");
+    let (coeff_a, coeff_b, vref) = (number(coeff_a), number(coeff_b), number(vref));
+    Record { coeff_a, coeff_b, vref, unit: unit as u8, atten: atten as u8, source }
+}
+
+/// The record of a Vref.
+fn by_vref(vref: i64, unit: usize, atten: usize) -> Record {
+    record(VREF, document::by_vref(unit, atten, vref), vref, unit, atten)
 }
 
 /// Every Vref code, unit and attenuation, without the reserve bit and with each two-point code zero in turn.
@@ -132,9 +138,18 @@ fn vref() -> u64 {
             let mut bits = [code, u32::from(zero != 6), 1, 1, 1, 1, 1];
             bits[zero] = 0;
             let (dump, map) = dump_and_map(MapChip::Esp32, &bits[..6]);
-            let document = record(document::by_vref(unit, atten, code), code, unit, atten);
+            let document = by_vref(document::vref(code), unit, atten);
             tally.same(line::decode(&dump, &map, unit as u8, atten as u8).ok(), Some(document));
         }
+    }
+    tally.report()
+}
+
+/// a and b of every Vref that a record may have, by the crate's own function.
+fn vref_lines() -> u64 {
+    let mut tally = Tally::new("lines by Vref");
+    for crates in records::all_by_vref() {
+        tally.same(crates, by_vref(crates.vref.into(), crates.unit.into(), crates.atten.into()));
     }
     tally.report()
 }
@@ -156,7 +171,7 @@ fn two_point() -> u64 {
         }
         let (dump, map) = dump_and_map(MapChip::Esp32, &[0, 1, low, low, high, high]);
         let document::TwoPoints { a, t, b } = document::two_points(unit, atten, low, high);
-        let wrapped = record((a, b.rem_euclid(1 << 32)), 0, unit, atten);
+        let wrapped = record(TWO_POINT, (a, b.rem_euclid(1 << 32)), document::vref(0), unit, atten);
         checked.same(line::decode(&dump, &map, unit as u8, atten as u8).ok(), (t <= 850).then_some(wrapped));
         plain.same(line::decode_plain(&dump, &map, unit as u8, atten as u8), Ok(wrapped));
     }
@@ -167,14 +182,14 @@ fn two_point() -> u64 {
 fn convert() -> u64 {
     let mut tally = Tally::new("converting");
     let noise = &mut Noise::new(102);
-    let mut records: Vec<Record> =
-        codes(32, 2, 4).map(|(code, u, a)| record(document::by_vref(u, a, code), code, u, a)).collect();
+    let mut records = records::all_by_vref();
     records.extend((0..300).map(|_| Record {
         coeff_a: noise.within(0, 131071),
         coeff_b: noise.within(0, 4095),
         vref: noise.within(995, 1205),
         unit: noise.below(2) as u8,
-        use_lut: !noise.once_in(4),
+        atten: if noise.once_in(4) { noise.below(3) as u8 } else { 3 },
+        source: TWO_POINT,
     }));
     for record in records {
         for raw in 0..4096 {

@@ -3,7 +3,7 @@ use std::fmt::Display;
 
 use oracle::curve::{self, Chip};
 use oracle::fields::{self, Field};
-use oracle::line::{self, Record};
+use oracle::line::{self, Record, VREF};
 use oracle::plain::dump_and_map;
 use oracle::rules::MapChip;
 use oracle::{c6, document, s2};
@@ -32,7 +32,7 @@ fn fields() {
 }
 
 /// Document 01's case 3: Vref 1100, unit 0, 11 dB.
-const CASE_3: Record = Record { coeff_a: 52798, coeff_b: 142, vref: 1100, unit: 0, use_lut: true };
+const CASE_3: Record = Record { coeff_a: 52798, coeff_b: 142, vref: 1100, unit: 0, atten: 3, source: VREF };
 
 /// The first number of a range at which a call panics, with the panic.
 fn first_panic<T>(range: std::ops::RangeInclusive<u32>, call: impl Fn(u32) -> Result<T, oracle::Panic>) -> String {
@@ -41,7 +41,7 @@ fn first_panic<T>(range: std::ops::RangeInclusive<u32>, call: impl Fn(u32) -> Re
 }
 
 fn line() {
-    let plain = Record { use_lut: false, ..CASE_3 };
+    let plain = Record { atten: 0, ..CASE_3 };
     println!("line: case 3's record, raw 4096: {:?}", line::convert(CASE_3, 4096));
     println!(
         "line: case 3's record, first raw that panics: {}",

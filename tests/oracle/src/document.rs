@@ -61,9 +61,9 @@ pub fn vref(code: u32) -> i64 {
     i64::from(1100 + 7 * sign_magnitude(code, 5))
 }
 
-/// a and b of a Vref code.
-pub fn by_vref(unit: usize, atten: usize, code: u32) -> (i64, i64) {
-    (vref(code) * VREF_SCALE[unit][atten] / 4096, VREF_OFFSET[unit][atten])
+/// a and b of a Vref.
+pub fn by_vref(unit: usize, atten: usize, vref: i64) -> (i64, i64) {
+    (vref * VREF_SCALE[unit][atten] / 4096, VREF_OFFSET[unit][atten])
 }
 
 const LUT_LOW: [[i64; 20]; 2] = [
@@ -89,11 +89,11 @@ fn lookup(record: Record, raw: i64) -> i64 {
     (at(i) * (64 - along) + at(i + 1) * along + 6400) / 12800
 }
 
-/// Line below 2880, blend 2880 to 2944, lookup above; without the lookup: line.
+/// Attenuation 3: line below 2880, blend 2880 to 2944, lookup above. Others: line.
 pub fn convert(record: Record, raw: u16) -> i64 {
     let raw = i64::from(raw);
     let line = line(record, raw);
-    if !record.use_lut || raw < 2880 {
+    if record.atten != 3 || raw < 2880 {
         return line;
     }
     let lookup = lookup(record, raw);

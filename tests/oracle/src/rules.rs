@@ -3,7 +3,7 @@
 use crate::curve::Chip;
 use crate::document::TwoPoints;
 use crate::fields::{Field, field_of, read_u32};
-use crate::line::Record;
+use crate::line::{self, Record, TWO_POINT, VREF};
 use crate::{Dump, document};
 
 /// Why a call is turned down.
@@ -139,11 +139,19 @@ pub fn underflow(points: TwoPoints) -> Answer<()> {
     refuse(points.b < 0, 9)
 }
 
-/// 10: line record outside its ranges.
+/// 10: line record outside its ranges. Document 02, #106: so too with an attenuation above 3 or a source that there isn't; and by Vref
+/// with another a or b than its vref, unit and attenuation give, which the crate itself says.
 #[inline]
 pub fn record(record: Record) -> Answer<()> {
-    let vref = (995..=1205).contains(&record.vref);
-    refuse(record.coeff_a > 131071 || record.coeff_b > 4095 || !vref || record.unit > 1, 10)
+    let Record { coeff_a, coeff_b, vref, unit, atten, source } = record;
+    let vref_fits = (995..=1205).contains(&vref);
+    refuse(coeff_a > 131071 || coeff_b > 4095 || !vref_fits || unit > 1 || atten > 3, 10)?;
+    let sound = match source {
+        TWO_POINT => true,
+        VREF => line::by_vref(unit, atten, vref) == (coeff_a, coeff_b),
+        _ => false,
+    };
+    refuse(!sound, 10)
 }
 
 /// 11: a stretch whose first count plus length is above 4096.
