@@ -51,16 +51,20 @@ static void refused(SkvLineRecord r)
     CHECK(list[0] == BEFORE && list[1] == BEFORE);
 }
 
-/* By Vref there is one record of a vref, a unit and an attenuation; by two points its a and b may be others. */
+/* By Vref there is one record of a vref, a unit and an attenuation; by two points its a and b may be others. With the same a and b both
+   give the same millivolts. */
 static void one_by_vref(uint32_t vref, int unit, int attenuation)
 {
     const SkvLineRecord good = by_vref(vref, unit, attenuation);
+    const SkvLineRecord points = by_two_points(good.coeff_a, good.coeff_b, vref, unit, attenuation);
     SkvLineRecord beside[4] = {good, good, good, good};
     beside[0].coeff_a--;
     beside[1].coeff_a++;
     beside[2].coeff_b--;
     beside[3].coeff_b++;
     taken(good);
+    taken(points);
+    CHECK(skv_convert(good, last).voltage.mv == skv_convert(points, last).voltage.mv);
     for (int i = 0; i < 4; i++) {
         refused(beside[i]);
         beside[i].source = SKV_TWO_POINT;
