@@ -104,12 +104,32 @@ class Library(unittest.TestCase):
     def test_another_library(self):
         self.assertIn("IT has no skv_", self.told_of("int nothing;"))
 
-    def test_a_library_of_another_version(self):
-        # Version 1 had the same names. A refusal was its number alone, so that the millivolts began at byte 2.
-        answer = "struct answer { unsigned char number; unsigned short mv; };"
-        calls = (f"struct answer {name}(void) {{ struct answer a = {{0, 600}}; return a; }}" for name in raw.CALLS)
-        told = self.told_of("\n".join((answer, *calls)))
-        self.assertIn(f"IT has answers of another form, so it isn't the library of this package's version, {raw.VERSION}", told)
+    def is_another(self, *source, calls=raw.CALLS):
+        """A library of that source, and in it all calls, or those, which answer 600 mV, is told to be another version's."""
+        plain = (f"struct answer {name}(void) {{ return millivolts(600); }}" for name in calls)
+        told = self.told_of("\n".join((*source, *plain)))
+        self.assertIn(f"IT has structs of another form, so it isn't the library of this package's version, {raw.VERSION}", told)
+
+    def test_a_library_of_version_1(self):
+        """It had the same names. A refusal was its number alone, so that the millivolts began at byte 2."""
+        self.is_another(
+            "struct answer { unsigned char number; unsigned short mv; };",
+            "static struct answer millivolts(unsigned short mv) { struct answer a = {0, mv}; return a; }",
+        )
+
+    def test_a_library_of_version_2(self):
+        """It had the same names and the same answers. A record had at byte 13 whether the lookup is used, any byte but 0 for yes, and
+        nothing behind it.
+        """
+        self.is_another(
+            "struct answer { unsigned char number, record, place; unsigned short mv; };",
+            "struct record { unsigned coeff_a, coeff_b, vref; unsigned char unit, use_lut; };",
+            "struct count { unsigned short raw; };",
+            "static struct answer millivolts(unsigned short mv) { struct answer a = {0, 0, 0, mv}; return a; }",
+            "struct answer skv_convert(struct record r, struct count c)",
+            "{ return millivolts(c.raw != 4095 ? 0 : r.use_lut ? 3134 : 3441); }",
+            calls=[name for name in raw.CALLS if name != "skv_convert"],
+        )
 
     def test_words(self):
         self.assertEqual(self.told("--help")[0], 0)

@@ -5,7 +5,8 @@
 //!   which of its records is bad. No call panics, but for indexing a [`Table`] past its end.
 //! - **Memory is lent.** A dump is a slice of words, a map or a log one of bytes; nothing is copied, kept or allocated. A refused call
 //!   leaves what it was lent as it was.
-//! - **Numbers that mean different things are different types**: [`Count`] and [`Millivolt`], [`Unit`] and [`Attenuation`], [`Chip`].
+//! - **Numbers that mean different things are different types**: [`Count`] and [`Millivolt`], [`Unit`] and [`Attenuation`], [`Source`],
+//!   [`Chip`].
 //! - **Threads.** The library has no state.
 //!
 //! ```
@@ -54,13 +55,13 @@ pub use field::Field;
 pub use line::LineRecord;
 pub use log::{next_sample, Log, Sample};
 pub use map::check_map;
-pub use quantity::{Attenuation, Chip, Count, Millivolt, Unit};
+pub use quantity::{Attenuation, Chip, Count, Millivolt, Source, Unit};
 pub use refusal::{Answer, Reason, Refusal};
 pub use session::Session;
 pub use table::Table;
 
 /// The version of the header that this crate is written to. The first number changes where a caller has to be changed.
-pub const VERSION: &str = "2.0";
+pub const VERSION: &str = "3.0";
 
 /// Words of a dump: blocks 0 to 10, eight words each.
 pub const DUMP_WORDS: usize = 88;

@@ -1,7 +1,8 @@
 //! ESP32 line calibration: what counts are converted by.
-use crate::{raw, Answer, Attenuation, Count, Millivolt, Table, Unit};
+use crate::{raw, Answer, Attenuation, Count, Millivolt, Source, Table, Unit};
 
-/// What converting goes by. [`decode`](Self::decode) gives one of a board; any other inside the ranges is taken too.
+/// What converting goes by, and where it came from. [`decode`](Self::decode) gives one of a board. Any other inside the ranges is taken
+/// too, but by [`Source::VREF`] only with the a and b that its vref gives for its unit and attenuation.
 #[repr(C)]
 #[derive(Debug, Clone, Copy, PartialEq, Eq, PartialOrd, Ord, Hash, Default)]
 pub struct LineRecord {
@@ -13,8 +14,10 @@ pub struct LineRecord {
     pub vref: u32,
     /// One of the two.
     pub unit: Unit,
-    /// Whether the lookup is used: 0 for no.
-    pub use_lut: u8,
+    /// One of the four; at [`DB_11`](Attenuation::DB_11) the lookup is used.
+    pub attenuation: Attenuation,
+    /// Whether a and b are of two points or of the reference voltage.
+    pub source: Source,
 }
 
 impl LineRecord {
@@ -29,7 +32,7 @@ impl LineRecord {
         decoded.refusal.or_of_map(decoded.record)
     }
 
-    /// Whether it is inside its ranges, as a decoded one is.
+    /// Whether it is one to convert by, as a decoded one is.
     ///
     /// # Errors
     /// [`LineRecord`](crate::Reason::LineRecord).
@@ -66,9 +69,9 @@ impl LineRecord {
         Table::of(self)
     }
 
-    /// Whether the lookup is used.
+    /// Whether the lookup is used: at 11 dB, whatever the source.
     #[inline]
     pub fn uses_lookup(self) -> bool {
-        self.use_lut != 0
+        self.attenuation == Attenuation::DB_11
     }
 }

@@ -51,6 +51,40 @@ impl Attenuation {
     pub const DB_11: Self = Self(3);
 }
 
+impl fmt::Display for Attenuation {
+    fn fmt(&self, to: &mut fmt::Formatter) -> fmt::Result {
+        match *self {
+            Self::DB_0 => to.write_str("0 dB"),
+            Self::DB_2_5 => to.write_str("2.5 dB"),
+            Self::DB_6 => to.write_str("6 dB"),
+            Self::DB_11 => to.write_str("11 dB"),
+            Self(number) => write!(to, "attenuation {number}"),
+        }
+    }
+}
+
+/// Where a line record's a and b come from.
+#[repr(transparent)]
+#[derive(Debug, Clone, Copy, PartialEq, Eq, PartialOrd, Ord, Hash, Default)]
+pub struct Source(pub u8);
+
+impl Source {
+    /// The board's two calibration points.
+    pub const TWO_POINT: Self = Self(0);
+    /// The reference voltage alone.
+    pub const VREF: Self = Self(1);
+}
+
+impl fmt::Display for Source {
+    fn fmt(&self, to: &mut fmt::Formatter) -> fmt::Result {
+        match *self {
+            Self::TWO_POINT => to.write_str("two points"),
+            Self::VREF => to.write_str("Vref"),
+            Self(number) => write!(to, "source {number}"),
+        }
+    }
+}
+
 /// A chip, by the library's number of it. Maps are those of ESP32, S2 and C6; curves those of all but ESP32 and S2.
 #[repr(transparent)]
 #[derive(Debug, Clone, Copy, PartialEq, Eq, PartialOrd, Ord, Hash)]

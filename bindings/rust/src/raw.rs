@@ -59,7 +59,7 @@ structs! {
     SkvCount = 2 { raw as 0: u16 = 0 }
     SkvMillivolt = 2 { mv as 0: u16 = 0 }
     SkvField = 6 { block: u8 = 0, bit_start: u16 = 2, bit_count: u16 = 4 }
-    SkvLineRecord = 16 { coeff_a: u32 = 0, coeff_b: u32 = 4, vref: u32 = 8, unit: u8 = 12, use_lut: u8 = 13 }
+    SkvLineRecord = 16 { coeff_a: u32 = 0, coeff_b: u32 = 4, vref: u32 = 8, unit: u8 = 12, attenuation: u8 = 13, source: u8 = 14 }
     SkvSample = 4 { raw: SkvCount = 0, board: u8 = 2, last: u8 = 3 }
     /// A refusal's number, 0 for none; a map's first bad record and the place of its stray byte where it tells them, else 0.
     SkvRefusal = 3 { number: u8 = 0, record: u8 = 1, place: u8 = 2 }

@@ -80,7 +80,8 @@ reasons! {
     8 Raw: "count above 4095", "distrust the log: no converter of 12 bits gives it";
     9 Underflow: "by the two points the line would begin below 0 mV",
         "see that the map is this board's; if it is, take no voltages from this unit at this attenuation";
-    10 LineRecord: "line record outside its ranges", "decode it again; a stored record was damaged";
+    10 LineRecord: "line record outside its ranges, or by Vref with another a or b than its Vref's",
+        "decode it again; a stored record was damaged, or is from before version 3.0";
     11 Stretch: "a stretch whose first count plus length is above 4096", "lend a shorter list";
     12 NoCode: "no code in that version: S2 version not 2, or C6 version not 1 or 2", "this chip has no such code";
     13 LineAnswer: "line answer above 4095 given to the curve", "see where that voltage came from";

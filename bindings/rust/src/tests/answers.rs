@@ -7,18 +7,81 @@ fn record() -> LineRecord {
     LineRecord::decode(&ZEROS, &esp32_map(), Unit::ADC1, Attenuation::DB_11).unwrap()
 }
 
+/// The same by two points, so that its parts may be any of their ranges.
+fn by_two_points() -> LineRecord {
+    LineRecord { source: Source::TWO_POINT, ..record() }
+}
+
 #[test]
 fn a_record_converts() {
-    let unit = Unit::ADC1;
-    assert_eq!(record(), LineRecord { coeff_a: 52798, coeff_b: 142, vref: 1100, unit, use_lut: 1 });
-    assert!(record().uses_lookup());
+    let (unit, attenuation, source) = (Unit::ADC1, Attenuation::DB_11, Source::VREF);
+    assert_eq!(record(), LineRecord { coeff_a: 52798, coeff_b: 142, vref: 1100, unit, attenuation, source });
     for (count, mv) in [(0, 142), (2880, 2462), (2912, 2483), (2944, 2502), (4095, 3134)] {
         assert_eq!(record().convert(Count(count)), Ok(Millivolt(mv)));
     }
-    assert_eq!(record().convert(Count(4096)), refused(Reason::Raw));
-    let bad = LineRecord { vref: 994, ..record() };
-    assert_eq!((record().check(), bad.check()), (Ok(()), refused(Reason::LineRecord)));
-    assert_eq!(bad.convert(Count(4096)), refused(Reason::LineRecord));
+    assert_eq!((record().check(), record().convert(Count(4096))), (Ok(()), refused(Reason::Raw)));
+}
+
+#[test]
+fn a_record_says_where_it_came_from() {
+    let (map, mut two_points) = (esp32_map(), ZEROS);
+    two_points[1..6].fill(1); // the reserve bit, and no code is zero
+    for (dump, source) in [(ZEROS, Source::VREF), (two_points, Source::TWO_POINT)] {
+        for (unit, attenuation) in (0..8).map(|k| (Unit(k / 4), Attenuation(k % 4))) {
+            let record = LineRecord::decode(&dump, &map, unit, attenuation).unwrap();
+            assert_eq!((record.unit, record.attenuation, record.source), (unit, attenuation, source));
+            assert_eq!((record.check(), record.uses_lookup()), (Ok(()), attenuation == Attenuation::DB_11));
+        }
+    }
+}
+
+#[test]
+fn the_lookup_is_used_at_11_db_alone() {
+    for attenuation in [Attenuation::DB_0, Attenuation::DB_2_5, Attenuation::DB_6] {
+        let line = LineRecord { attenuation, ..by_two_points() };
+        assert_eq!((line.uses_lookup(), line.convert(Count(4095))), (false, Ok(Millivolt(3441))));
+    }
+    assert_eq!((by_two_points().uses_lookup(), by_two_points().convert(Count(4095))), (true, Ok(Millivolt(3134))));
+}
+
+/// Every call with a record refuses it, before it looks at a count; what it was lent stays as it was.
+fn refuses_the_record(bad: LineRecord) {
+    let mut list = [Millivolt(7); 2];
+    assert_eq!(bad.check(), refused(Reason::LineRecord), "{bad:?}");
+    assert_eq!(bad.convert(Count(4096)), refused(Reason::LineRecord), "{bad:?}");
+    assert_eq!(bad.fill(Count(4096), &mut list), refused(Reason::LineRecord), "{bad:?}");
+    assert_eq!(list, [Millivolt(7); 2]);
+}
+
+#[test]
+fn a_record_stays_inside_its_ranges() {
+    for good in [record(), by_two_points()] {
+        for (coeff_a, coeff_b) in [(131072, good.coeff_b), (good.coeff_a, 4096)] {
+            refuses_the_record(LineRecord { coeff_a, coeff_b, ..good });
+        }
+        for vref in [994, 1206] {
+            refuses_the_record(LineRecord { vref, ..good });
+        }
+        for byte in [2, 3, 255] {
+            refuses_the_record(LineRecord { unit: Unit(byte), ..good });
+            refuses_the_record(LineRecord { source: Source(byte), ..good });
+        }
+        for byte in [4, 5, 255] {
+            refuses_the_record(LineRecord { attenuation: Attenuation(byte), ..good });
+        }
+    }
+    assert_eq!(LineRecord { coeff_a: 131071, coeff_b: 4095, vref: 1205, ..by_two_points() }.check(), Ok(()));
+}
+
+#[test]
+fn by_vref_there_is_one_line() {
+    for (coeff_a, coeff_b) in [(52797, 142), (52799, 142), (52798, 141), (52798, 143)] {
+        refuses_the_record(LineRecord { coeff_a, coeff_b, ..record() });
+        assert_eq!(LineRecord { coeff_a, coeff_b, ..by_two_points() }.check(), Ok(()));
+    }
+    refuses_the_record(LineRecord { vref: 1101, ..record() });
+    refuses_the_record(LineRecord { unit: Unit::ADC2, ..record() });
+    refuses_the_record(LineRecord { attenuation: Attenuation::DB_6, ..record() });
 }
 
 #[test]
@@ -212,4 +275,7 @@ fn a_dump_file_is_352_bytes_low_first() {
 #[test]
 fn quantities_are_told() {
     assert_eq!((Millivolt(2462).to_string(), Count(2880).to_string()), ("2462 mV".to_string(), "2880".to_string()));
+    let told = [0, 1, 2, 3, 4].map(|number| Attenuation(number).to_string());
+    assert_eq!(told, ["0 dB", "2.5 dB", "6 dB", "11 dB", "attenuation 4"]);
+    assert_eq!([0, 1, 2].map(|number| Source(number).to_string()), ["two points", "Vref", "source 2"]);
 }

@@ -1,6 +1,6 @@
 //! Nothing of include/suongkivat.h is forgotten or declared otherwise: the header's text, written as Rust, is the text of raw.rs; its
 //! numbers and words are the crate's.
-use crate::{Chip, Reason, C6_MAP_BYTES, COUNTS, DUMP_WORDS, ESP32_MAP_BYTES, S2_MAP_BYTES, SAMPLE_BYTES, VERSION};
+use crate::{Chip, Reason, Source, C6_MAP_BYTES, COUNTS, DUMP_WORDS, ESP32_MAP_BYTES, S2_MAP_BYTES, SAMPLE_BYTES, VERSION};
 
 const HEADER: &str = include_str!("../../../../include/suongkivat.h");
 const RULES: &str = include_str!("../../../../docs/RULES.md");
@@ -145,7 +145,8 @@ fn another_header_shows() {
     }
     for (from, to) in [
         ("int32_t value;\n} SkvReading", "uint32_t value;\n} SkvReading"),
-        ("uint8_t use_lut;", ""),
+        ("uint8_t source;", ""),
+        ("uint8_t attenuation;\n    uint8_t source;", "uint8_t source;\n    uint8_t attenuation;"),
         ("uint8_t record;\n    uint8_t place;", "uint8_t place;\n    uint8_t record;"),
         ("uint16_t mv;", "uint16_t v;"),
     ] {
@@ -175,7 +176,7 @@ fn what_to_do_is_what_the_rules_say() {
 }
 
 #[test]
-fn chips_and_lengths_are_the_headers() {
+fn chips_sources_and_lengths_are_the_headers() {
     let mut ours: Vec<_> = Chip::ALL.iter().map(|(name, chip)| (format!("SKV_{name}"), usize::from(chip.0))).collect();
     let lengths = [
         ("SKV_DUMP_WORDS", DUMP_WORDS),
@@ -186,6 +187,8 @@ fn chips_and_lengths_are_the_headers() {
         ("SKV_COUNTS", COUNTS),
     ];
     ours.extend(lengths.map(|(name, length)| (name.to_string(), length)));
+    let sources = [("SKV_TWO_POINT", Source::TWO_POINT), ("SKV_VREF", Source::VREF)];
+    ours.extend(sources.map(|(name, source)| (name.to_string(), usize::from(source.0))));
     ours.sort();
     let refusals: Vec<_> = Reason::ALL.iter().map(|reason| c_name(*reason)).chain(["SKV_NONE".to_string()]).collect();
     let all = enumerated(HEADER).into_iter().map(|(name, number, _)| (name.to_string(), number));
