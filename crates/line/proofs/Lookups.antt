@@ -8,28 +8,28 @@ use Rattle.terms.proofs.Refusals.{and-true}
 use Rattle.lut.specs.Point.{pointAt}
 use Rattle.lut.proofs.Sums.{Around, around}
 use Rattle.line_record.specs.declared.record.LineRecord.{LineRecord}
-use Rattle.line_record.specs.Record.{inRanges}
+use Rattle.line_record.specs.Record.{converterInRanges}
 use Rattle.line.specs.Lookup.{hasLookup, slopeFrom, lutSlope}
-use Rattle.line_record.proofs.Records.{ranges-hold}
+use Rattle.line_record.proofs.Records.{converter-holds}
 
 module _ (r : LineRecord) (raw : ℕ) where
   -- where it has a count
-  pub has-count : inRanges r ≡ true → 2880 ≤ raw → raw ≤ 4095 → hasLookup r raw ≡ true
+  pub has-count : converterInRanges r ≡ true → 2880 ≤ raw → raw ≤ 4095 → hasLookup r raw ≡ true
   unfolding hasLookup
   has-count ranges l h = simp (ranges, le-leb _ _ l, le-leb _ _ h)
 
-  pub has-lookup : hasLookup r raw ≡ true → (inRanges r ≡ true) × (2880 ≤ raw) × (raw ≤ 4095)
+  pub has-lookup : hasLookup r raw ≡ true → (converterInRanges r ≡ true) × (2880 ≤ raw) × (raw ≤ 4095)
   unfolding hasLookup
   has-lookup e =
-      let p = and-true (inRanges r && leb 2880 raw) (leb raw 4095) e in
-      let q = and-true (inRanges r) (leb 2880 raw) (p .0) in
+      let p = and-true (converterInRanges r && leb 2880 raw) (leb raw 4095) e in
+      let q = and-true (converterInRanges r) (leb 2880 raw) (p .0) in
       (q .0, leb-true _ _ (q .1), leb-true _ _ (p .1))
 
   -- the points around it
-  pub points : (p : (inRanges r ≡ true) × (2880 ≤ raw) × (raw ≤ 4095)) → {here there : ℕ}
+  pub points : (p : (converterInRanges r ≡ true) × (2880 ≤ raw) × (raw ≤ 4095)) → {here there : ℕ}
       → here ≡ pointAt (r .unit) (r .vref) ((raw - 2880) / 64 + 0) → there ≡ pointAt (r .unit) (r .vref) ((raw - 2880) / 64 + 1)
       → Around (r .unit) (r .vref) raw (p .1) here there
-  points p h t = let ranges = ranges-hold r (p .0) in around _ _ raw (p .1) (ranges .vref-least) (ranges .vref-most) (p .2) h t
+  points p h t = let ranges = converter-holds r (p .0) in around _ _ raw (p .1) (ranges .0) (ranges .1) (p .2) h t
 
   -- the slope's two cases
   pub slope-some : hasLookup r raw ≡ true → slopeFrom r raw ≡ lutSlope r raw

@@ -5,7 +5,7 @@ use lib.Dec.{leb}
 use Rattle.lut.specs.Lookup.{sumAt, voltageAt}
 use Rattle.line_record.specs.declared.record.LineRecord.{LineRecord}
 use Rattle.line.specs.declared.lookup.Slope.{Slope}
-use Rattle.line_record.specs.Record.{inRanges}
+use Rattle.line_record.specs.Record.{converterInRanges}
 
 -- its sum at a count: 12800 times its millivolts, rounding included
 abbrev pub lookupSum : LineRecord → ℕ → ℕ
@@ -15,9 +15,9 @@ lookupSum r raw = sumAt (r .unit) (r .vref) raw
 abbrev pub lookupVoltage : LineRecord → ℕ → ℕ
 lookupVoltage r raw = voltageAt (r .unit) (r .vref) raw
 
--- the counts of the lookup, by a record inside its ranges
+-- the counts of the lookup, by a record whose converter is inside its ranges
 unfoldable pub hasLookup : LineRecord → ℕ → Bool
-hasLookup r raw = inRanges r && leb 2880 raw && leb raw 4095
+hasLookup r raw = converterInRanges r && leb 2880 raw && leb raw 4095
 
 -- the sum at a count, and what the next count adds to it; zeros where the lookup has no such count
 abbrev pub slopeFrom : LineRecord → ℕ → Slope

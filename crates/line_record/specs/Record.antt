@@ -1,6 +1,6 @@
 -- Document 01, "ESP32 line rules": a record handed in, with its refusal 10; document 02, #106: "The line record gains its source and its
 -- attenuation". In esp-hal: `AdcCalLine` of calibration/line/esp32.rs, which has neither.
-use mathlib.Core.Bool.{Bool, true, not, _&&_}
+use mathlib.Core.Bool.{Bool, not, _&&_}
 use Prim.Native.Nat.{ℕ}
 use lib.Dec.{leb, eqb}
 use Rattle.terms.specs.Refusal.{refuse}
@@ -14,15 +14,13 @@ use Rattle.line_record.specs.declared.record.Source.the-variants.{TwoPoi
 unfoldable pub usesLookup : LineRecord → Bool
 usesLookup r = eqb (r .atten) 3
 
--- "A record handed in has a up to 131071, b up to 4095, vref 995 to 1205, unit 0 or 1"; "10 covers .. an attenuation above 3"
-unfoldable pub inRanges : LineRecord → Bool
-inRanges r =
-    leb (r .«coeff_a») 131071
-    && leb (r .«coeff_b») 4095
-    && leb 995 (r .vref)
-    && leb (r .vref) 1205
-    && leb (r .unit) 1
-    && leb (r .atten) 3
+-- "A record handed in has a up to 131071, b up to 4095"
+unfoldable pub lineInRanges : LineRecord → Bool
+lineInRanges r = leb (r .«coeff_a») 131071 && leb (r .«coeff_b») 4095
+
+-- "vref 995 to 1205, unit 0 or 1"; "10 covers .. an attenuation above 3"
+unfoldable pub converterInRanges : LineRecord → Bool
+converterInRanges r = leb 995 (r .vref) && leb (r .vref) 1205 && leb (r .unit) 1 && leb (r .atten) 3
 
 -- "exactly the a and b that its vref, unit and attenuation give"
 unfoldable pub hasVrefLine : LineRecord → Bool
@@ -32,11 +30,11 @@ hasVrefLine r =
 
 -- "A Vref record must have" them; "A two-point record keeps the ranges of document 01"
 unfoldable pub fitsSource : Source → LineRecord → Bool
-fitsSource TwoPoint r = true
+fitsSource TwoPoint r = lineInRanges r
 fitsSource Vref r = hasVrefLine r
 
 unfoldable pub goodRecord : LineRecord → Bool
-goodRecord r = inRanges r && fitsSource (r .source) r
+goodRecord r = converterInRanges r && fitsSource (r .source) r
 
 -- 10: "line record outside its ranges"; "Refusals: 10 covers this and an attenuation above 3"
 unfoldable pub recordRefusal : LineRecord → ℕ

@@ -1,19 +1,18 @@
 // The line record: what converting and filling go by. In esp-hal: `AdcCalLine`.
 use terms::refusal;
 use terms::refusal::Outcome;
-use vref::coefficients::vref_line;
+use vref::coefficients::LARGEST_VREF;
+use vref::coefficients::is_vref_line;
 ghost use mathlib.Core.Path.{_≡_};
 ghost use mathlib.Core.Bool.{true};
 ghost use Rattle.terms.specs.Refusal.{outcomeOf};
-ghost use Rattle.line_record.specs.Record.{usesLookup, inRanges, hasVrefLine, fitsSource, goodRecord, recordRefusal};
+ghost use Rattle.line_record.specs.Record.{usesLookup, lineInRanges, converterInRanges, hasVrefLine, fitsSource, goodRecord, recordRefusal};
 
 const LARGEST_A: u32 = 131071;
 
 const LARGEST_B: u32 = 4095;
 
 const SMALLEST_VREF: u32 = 995;
-
-const LARGEST_VREF: u32 = 1205;
 
 const LUT_ATTEN: u8 = 3;
 
@@ -40,13 +39,18 @@ pub fn uses_lookup(cal: LineRecord) -> bool
     cal.atten == LUT_ATTEN
 }
 
-// Whether each part is inside its range. The comparisons are joined by `&`, so that they are one test with one jump.
-pub fn in_ranges(cal: LineRecord) -> bool
-    ensures { λ r. ⌜ r ≡ inRanges cal ⌝ }
+// Whether a and b are inside their ranges.
+fn line_in_ranges(cal: LineRecord) -> bool
+    ensures { λ r. ⌜ r ≡ lineInRanges cal ⌝ }
 {
-    (cal.coeff_a <= LARGEST_A)
-        & (cal.coeff_b <= LARGEST_B)
-        & (SMALLEST_VREF <= cal.vref)
+    (cal.coeff_a <= LARGEST_A) & (cal.coeff_b <= LARGEST_B)
+}
+
+// Whether Vref, the unit and the attenuation are inside their ranges. Comparisons are joined by `&`, so that several may be one test.
+pub fn converter_in_ranges(cal: LineRecord) -> bool
+    ensures { λ r. ⌜ r ≡ converterInRanges cal ⌝ }
+{
+    (SMALLEST_VREF <= cal.vref)
         & (cal.vref <= LARGEST_VREF)
         & (cal.unit <= refusal::LAST_UNIT)
         & (cal.atten <= refusal::LAST_ATTEN)
@@ -54,30 +58,29 @@ pub fn in_ranges(cal: LineRecord) -> bool
 
 // Whether a and b are those that the record's Vref gives for its unit and attenuation.
 fn has_vref_line(cal: LineRecord) -> bool
-    requires { ⌜ inRanges cal ≡ true ⌝ }
+    requires { ⌜ converterInRanges cal ≡ true ⌝ }
     ensures { λ r. ⌜ r ≡ hasVrefLine cal ⌝ }
 {
-    let line = vref_line(cal.unit, cal.atten, cal.vref as u16);
-    (cal.coeff_a == line.a) & (cal.coeff_b == line.b)
+    is_vref_line(cal.unit, cal.atten, cal.vref, cal.coeff_a, cal.coeff_b)
 }
 
-// Whether a and b may come from the record's source.
+// Whether a and b may come from the record's source. By Vref they are then inside their ranges too.
 fn fits_source(cal: LineRecord) -> bool
-    requires { ⌜ inRanges cal ≡ true ⌝ }
+    requires { ⌜ converterInRanges cal ≡ true ⌝ }
     ensures { λ r. ⌜ r ≡ fitsSource (cal .source) cal ⌝ }
 {
     let source = cal.source;
     match source {
-        Source::TwoPoint => true,
+        Source::TwoPoint => line_in_ranges(cal),
         Source::Vref => has_vref_line(cal),
     }
 }
 
-// Whether the record may be converted by. The ranges come first: inside them Vref times its scale is small.
+// Whether the record may be converted by.
 pub fn good_record(cal: LineRecord) -> bool
     ensures { λ r. ⌜ r ≡ goodRecord cal ⌝ }
 {
-    if in_ranges(cal) {
+    if converter_in_ranges(cal) {
         return fits_source(cal);
     }
     false

@@ -2,6 +2,10 @@
 use mathlib.Core.Path.{sym, _∙_}
 use Rattle.terms.specs.OneAnswer.{OneAnswer}
 use Rattle.vref.proofs.coefficients.vref_line.Reads as vref-line
+use Rattle.vref.proofs.coefficients.is_vref_line.Reads as is-vref-line
 
 pub vref-line-one : OneAnswer (λ κs z e. z) vref-line.Post
 vref-line-one κs a z z′ e e′ p q = p ∙ sym q
+
+pub is-vref-line-one : OneAnswer (λ κs z e. z) is-vref-line.Post
+is-vref-line-one κs a z z′ e e′ p q = p ∙ sym q

@@ -1,7 +1,9 @@
 -- Document 01, "ESP32 line rules": a and b by Vref. In esp-hal: `characterize_using_vref` of calibration/line/esp32.rs, which cites
 -- ESP-IDF's components/esp_adc/esp32/adc_cali_line_fitting.c, line 155.
+use mathlib.Core.Bool.{Bool, _&&_}
 use mathlib.Core.List.{List, [], _∷_}
 use Prim.Native.Nat.{ℕ, _*_, _/_}
+use lib.Dec.{leb, eqb}
 use Rattle.terms.specs.Refusal.{byNumber, unitRefusal}
 use Rattle.terms.specs.Unit.{entryOf}
 use Rattle.vref.specs.declared.coefficients.Coefficients.{Coefficients}
@@ -33,3 +35,12 @@ vrefLine unit atten vref = record { a = vref * vrefScale unit atten / 4096; b = 
 unfoldable pub coefficientsFor : ℕ → ℕ → ℕ → Coefficients
 coefficientsFor unit atten vref =
     byNumber (unitRefusal unit atten) (vrefLine unit atten vref) (record { a = 0; b = 0 })
+
+-- document 02, #106: whether a and b are "exactly the a and b that its vref, unit and attenuation give". Vref's code gives at most 1205
+unfoldable pub isVrefLine : ℕ → ℕ → ℕ → ℕ → ℕ → Bool
+isVrefLine unit atten vref a b =
+    leb unit 1
+    && leb atten 3
+    && leb vref 1205
+    && eqb a (vrefLine unit atten vref .a)
+    && eqb b (vrefLine unit atten vref .b)

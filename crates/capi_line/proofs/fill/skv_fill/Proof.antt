@@ -23,8 +23,7 @@ outcome-c-requires c κs = search needs
 returns : tie.Need-returns
 returns c =
     let p = c .before .before in
-    let handed = p .before .before .record-from .ensures in
-    (
+    let handed = p .before .before .record-from .ensures in (
       c .outcome-c .ensures ∙ rw (c .before .no-source .ensures, ← handed, p .enum-told .given .1),
       rw (← handed, p .enum-told .given .1),
     )
@@ -42,8 +41,7 @@ returns-2 : tie.Need-returns-2
 returns-2 c =
     let got = c .before .before .before .fill in
     let p = c .before .before .before .before .before .before in
-    let handed = p .before .before .record-from .ensures in
-    (
+    let handed = p .before .before .record-from .ensures in (
       c .outcome-c2 .ensures ∙ rw (got .ensures .0, ← handed, p .«record» .given .1),
       got .ensures .1 ∙ rw (← handed, p .«record» .given .1),
     )

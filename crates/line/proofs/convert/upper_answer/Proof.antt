@@ -5,14 +5,14 @@ use native.Mathlib.Omega.{arith}
 use borrow.Author.Needs.{needs}
 use Rattle.line.proofs.Answers.{beyond-line, answer-blend, answer-lookup, blend-mean, line-most, lookup-most}
 use Rattle.line.proofs.Exactly.{convert-good}
-use Rattle.line_record.proofs.Records.{record-ranges, record-sound}
+use Rattle.line_record.proofs.Records.{record-converter, record-sound}
 use Rattle.line.proofs.convert.upper_answer.Statement.{statement}
 use Rattle.line.proofs.convert.upper_answer.Tie as tie
 
 calculate-voltage-lut-requires : tie.Need-calculate-voltage-lut-requires
 calculate-voltage-lut-requires c κs =
     let good = convert-good _ _ (c .pre .0) in
-    (record-ranges _ (good .0), beyond-line _ _ (c .pre .1) .1, good .1)
+    (record-converter _ (good .0), beyond-line _ _ (c .pre .1) .1, good .1)
 
 returns : tie.Need-returns
 returns c =

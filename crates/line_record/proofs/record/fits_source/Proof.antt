@@ -8,6 +8,9 @@ use Rattle.line_record.proofs.record.fits_source.Tie as tie
 enum-told : tie.Need-enum-told
 enum-told c = search needs
 
+line-in-ranges-requires : tie.Need-line-in-ranges-requires
+line-in-ranges-requires c κs = search needs
+
 enum-told-2 : tie.Need-enum-told-2
 enum-told-2 c = search needs
 
@@ -15,11 +18,11 @@ has-vref-line-requires : tie.Need-has-vref-line-requires
 has-vref-line-requires c κs = search needs
 
 returns : tie.Need-returns
-returns c = sym (fits-two-point _ (c .enum-told .given .1))
+returns c = c .line-in-ranges .ensures ∙ sym (fits-two-point _ (c .before .enum-told .given .1))
 
 returns-2 : tie.Need-returns-2
 returns-2 c = c .has-vref-line .ensures ∙ sym (fits-vref _ (c .before .enum-told2 .given .1))
 
 pub fits-source-spec : {M : Type 1} → statement M
 fits-source-spec =
-    tie.close (tie.spec enum-told enum-told-2 has-vref-line-requires returns returns-2)
+    tie.close (tie.spec enum-told line-in-ranges-requires enum-told-2 has-vref-line-requires returns returns-2)
