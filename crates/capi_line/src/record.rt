@@ -1,36 +1,79 @@
 // The line record.
 use capi::answer::SkvOutcome;
 use capi::answer::outcome_c;
-use capi::answer::yes_or_no;
 use line_record::record;
 use line_record::record::LineRecord;
+use line_record::record::Source;
+use terms::refusal;
+use terms::refusal::Outcome;
+use terms::refusal::Refusal;
 ghost use mathlib.Core.Path.{_≡_};
-ghost use Rattle.terms.specs.Refusal.{outcomeOf};
+ghost use Rattle.terms.specs.Refusal.{plain, outcomeOf};
 ghost use Rattle.line_record.specs.Record.{recordRefusal};
 ghost use Rattle.capi.specs.Answer.{outcomeC};
-ghost use Rattle.capi_line.specs.Record.{recordFrom, recordC};
+ghost use Rattle.capi_line.specs.Record.{withSource, handed, byRecord, sourceC, recordC};
 
-// A line record; the lookup is used where use_lut isn't 0.
+const TWO_POINT: u8 = 0;
+
+const VREF: u8 = 1;
+
+// A line record; its source is `TWO_POINT` or `VREF`.
 #[repr(C)]
 pub struct SkvLineRecord {
     pub coeff_a: u32,
     pub coeff_b: u32,
     pub vref: u32,
     pub unit: u8,
-    pub use_lut: u8,
+    pub attenuation: u8,
+    pub source: u8,
 }
 
-// The record that C handed in. It may be any, as it comes from outside, while the constructor of `line` makes only those that decoding
-// gives: so it is put together here, and nowhere else. Each call checks it.
-pub(crate) fn record_from(cal: SkvLineRecord) -> LineRecord
-    ensures { λ r. ⌜ r ≡ recordFrom cal ⌝ }
+// What C handed in for a record.
+pub(crate) enum Handed {
+    Record(LineRecord),
+    NoSource,
+}
+
+// The record that C handed in, with its source.
+fn with_source(cal: SkvLineRecord, source: Source) -> LineRecord
+    ensures { λ r. ⌜ r ≡ withSource cal source ⌝ }
 {
     LineRecord {
         coeff_a: cal.coeff_a,
         coeff_b: cal.coeff_b,
         vref: cal.vref,
         unit: cal.unit,
-        use_lut: cal.use_lut != 0,
+        atten: cal.attenuation,
+        source,
+    }
+}
+
+// The record that C handed in, or none where its last byte names no source. Each call checks the rest.
+pub(crate) fn record_from(cal: SkvLineRecord) -> Handed
+    ensures { λ r. ⌜ r ≡ handed cal ⌝ }
+{
+    if cal.source == TWO_POINT {
+        return Handed::Record(with_source(cal, Source::TwoPoint));
+    }
+    if cal.source == VREF {
+        return Handed::Record(with_source(cal, Source::Vref));
+    }
+    Handed::NoSource
+}
+
+// Why a record without a source is refused. It comes before all else, as every refusal of a record does.
+pub(crate) fn no_source() -> Refusal
+    ensures { λ r. ⌜ r ≡ plain 10 ⌝ }
+{
+    refusal::plain(refusal::LINE_RECORD)
+}
+
+fn source_c(source: Source) -> u8
+    ensures { λ r. ⌜ r ≡ sourceC source ⌝ }
+{
+    match source {
+        Source::TwoPoint => TWO_POINT,
+        Source::Vref => VREF,
     }
 }
 
@@ -38,12 +81,14 @@ pub(crate) fn record_from(cal: SkvLineRecord) -> LineRecord
 pub(crate) fn record_c(cal: LineRecord) -> SkvLineRecord
     ensures { λ r. ⌜ r ≡ recordC cal ⌝ }
 {
+    let source = cal.source;
     SkvLineRecord {
         coeff_a: cal.coeff_a,
         coeff_b: cal.coeff_b,
         vref: cal.vref,
         unit: cal.unit,
-        use_lut: yes_or_no(cal.use_lut),
+        attenuation: cal.atten,
+        source: source_c(source),
     }
 }
 
@@ -52,13 +97,17 @@ pub(crate) const NO_RECORD: SkvLineRecord = SkvLineRecord {
     coeff_b: 0,
     vref: 0,
     unit: 0,
-    use_lut: 0,
+    attenuation: 0,
+    source: 0,
 };
 
-// Good where the record is inside its ranges. Refusal 10.
+// Good where the record may be converted by. Refusal 10.
 #[no_mangle]
 pub extern "C" fn skv_check_record(cal: SkvLineRecord) -> SkvOutcome
-    ensures { λ r. ⌜ r ≡ outcomeC (outcomeOf (recordRefusal (recordFrom cal))) ⌝ }
+    ensures { λ r. ⌜ r ≡ outcomeC (byRecord (handed cal) (λ line. outcomeOf (recordRefusal line)) (outcomeOf 10)) ⌝ }
 {
-    outcome_c(record::check_record(record_from(cal)))
+    let Handed::Record(record) = record_from(cal) else {
+        return outcome_c(Outcome::Refused(no_source()));
+    };
+    outcome_c(record::check_record(record))
 }

@@ -14,12 +14,16 @@ use Rattle.terms.proofs.Order.{either}
 use Rattle.terms.proofs.Units.{unit-most, entry-at}
 use Rattle.terms.proofs.Whole.{below-test, from-test}
 use Rattle.vref.specs.declared.coefficients.Atten.{Atten}
+use Rattle.vref.specs.Coefficients.{vrefLine}
 use Rattle.vref.proofs.Lines.{vref-ranges}
-use Rattle.esp32.specs.declared.characterize.Source.{Source}
-use Rattle.esp32.specs.declared.characterize.Source.the-variants.{TwoPoint, Vref}
+use Rattle.line_record.specs.declared.record.Source.the-variants as source
+use Rattle.line_record.proofs.Sources.{two-point-not-vref}
+use Rattle.esp32.specs.declared.characterize.Basis.{Basis}
+use Rattle.esp32.specs.declared.characterize.Basis.the-variants.{TwoPoint, Vref}
 use Rattle.esp32.specs.Code.{lowOf, highOf}
 use Rattle.esp32.specs.Characterize.{adc1TpScale, adc2TpScale, adc1TpOffset, adc2TpOffset, tpScale, tpOffset}
-use Rattle.esp32.specs.Characterize.{twoPointA, topOf, bOf, bRefusal, twoPointB, coefficientsOf, sourceRefusal}
+use Rattle.esp32.specs.Characterize.{twoPointA, topOf, bOf, bRefusal, twoPointB, coefficientsOf, basisRefusal}
+use Rattle.esp32.specs.Decode.{sourceOf}
 use Rattle.esp32.specs.Private.{Apart, InBits, tpAttenOf}
 use Rattle.esp32.proofs.Codes.{points-apart}
 
@@ -87,16 +91,23 @@ pub two-point-a-most : (scale low high : ℕ) → scale ≤ 224708 → Apart low
 unfolding twoPointA
 two-point-a-most scale low high s d = div-le-of-le-mul (high - low) (omega arith)
 
--- a and b from either source are inside a record's ranges
-pub line-ranges : (unit atten vref : ℕ) (source : Source) → vref ≤ 1205 → sourceRefusal unit atten source ≡ 0
-    → (coefficientsOf unit atten vref source .a ≤ 131071) × (coefficientsOf unit atten vref source .b ≤ 4095)
-unfolding coefficientsOf sourceRefusal
+-- a and b from either basis are inside a record's ranges
+pub line-ranges : (unit atten vref : ℕ) (basis : Basis) → vref ≤ 1205 → basisRefusal unit atten basis ≡ 0
+    → (coefficientsOf unit atten vref basis .a ≤ 131071) × (coefficientsOf unit atten vref basis .b ≤ 4095)
+unfolding coefficientsOf basisRefusal
 line-ranges unit atten vref (TwoPoint low high) v e =
     let most = tp-most unit atten in
     let b = two-point-b-most (topOf (lowOf unit low) (highOf unit high)) (tpOffset unit atten) e (most .1) in
     (two-point-a-most _ _ _ (most .0) (points-apart unit low high), omega arith)
 line-ranges unit atten vref Vref v e = vref-ranges unit atten vref v
 
--- the codes of a source by two points
-pub in-bits : {source : Source} {low high : ℕ} → source ≡ TwoPoint low high → InBits source → (low < 128) × (high < 512)
+-- a record by Vref has Vref's line
+pub by-vref : (unit atten vref : ℕ) (basis : Basis) → sourceOf basis ≡ source.Vref
+    → coefficientsOf unit atten vref basis ≡ vrefLine unit atten vref
+unfolding coefficientsOf sourceOf
+by-vref unit atten vref (TwoPoint low high) s = absurd (two-point-not-vref s)
+by-vref unit atten vref Vref s = refl
+
+-- the codes of a basis by two points
+pub in-bits : {basis : Basis} {low high : ℕ} → basis ≡ TwoPoint low high → InBits basis → (low < 128) × (high < 512)
 in-bits e h = rw e at h

@@ -15,24 +15,25 @@ use Rattle.maps.specs.Told.{ofRecord, toldOf}
 use Rattle.maps.specs.Value.{valueById}
 use Rattle.maps.proofs.Told.{refuse-plain, told-as, told-same, told-is-number, map-good}
 use Rattle.inputs.proofs.Inputs.{decoding-good}
+use Rattle.vref.specs.declared.coefficients.Coefficients.{Coefficients}
 use Rattle.line_record.specs.declared.record.LineRecord.{LineRecord}
-use Rattle.esp32.specs.declared.characterize.Source.{Source}
-use Rattle.esp32.specs.declared.characterize.Source.the-variants.{TwoPoint, Vref}
+use Rattle.esp32.specs.declared.characterize.Basis.{Basis}
+use Rattle.esp32.specs.declared.characterize.Basis.the-variants.{TwoPoint, Vref}
 use Rattle.line_record.specs.declared.decoded.Decoded.the-variants.{Record, Refused}
 use Rattle.line_record.specs.Record.{recordRefusal}
 use Rattle.esp32.specs.Code.{vrefOf, lowOf, highOf}
-use Rattle.esp32.specs.Characterize.{tpOffset, topOf, bOf, bRefusal, sourceRefusal}
-use Rattle.esp32.specs.Decode.{sourceOf, foundOf, decodedRecord, decodeRefusal, decodeOf}
+use Rattle.esp32.specs.Characterize.{tpOffset, topOf, bOf, bRefusal, basisRefusal}
+use Rattle.esp32.specs.Decode.{basisOf, foundOf, decodedRecord, decodeRefusal, decodeOf}
 use Rattle.line_record.proofs.Records.{record-good}
 use Rattle.esp32.proofs.Codes.{vref-range}
-use Rattle.esp32.proofs.Coefficients.{line-ranges}
-use Rattle.esp32.proofs.Sources.{vref-fits}
+use Rattle.esp32.proofs.Coefficients.{line-ranges, by-vref}
+use Rattle.esp32.proofs.Bases.{vref-fits}
 
 -- 9 is of no record
-source-plain : (unit atten : ℕ) (source : Source) → ofRecord (sourceRefusal unit atten source) ≡ false
-unfolding bRefusal sourceRefusal
-source-plain unit atten (TwoPoint low high) = refuse-plain (ltZ (bOf (topOf (lowOf unit low) (highOf unit high)) (tpOffset unit atten)) (pos 0)) 9 refl
-source-plain unit atten Vref = refl
+basis-plain : (unit atten : ℕ) (basis : Basis) → ofRecord (basisRefusal unit atten basis) ≡ false
+unfolding bRefusal basisRefusal
+basis-plain unit atten (TwoPoint low high) = refuse-plain (ltZ (bOf (topOf (lowOf unit low) (highOf unit high)) (tpOffset unit atten)) (pos 0)) 9 refl
+basis-plain unit atten Vref = refl
 
 module _ (words : ℕ → ℕ) (dump map : List ℕ) (unit atten : ℕ) where
   abbrev input : ℕ
@@ -46,23 +47,23 @@ module _ (words : ℕ → ℕ) (dump map : List ℕ) (unit atten : ℕ) where
   unfolding decodeRefusal
   decode-input e h = rw (← e) (sym (orElse-some _ _ h))
 
-  pub decode-source : input ≡ 0 → {source : Source} → source ≡ sourceOf dump map unit
-      → {n : ℕ} → n ≡ sourceRefusal unit atten source → n ≡ decoding
+  pub decode-basis : input ≡ 0 → {basis : Basis} → basis ≡ basisOf dump map unit
+      → {n : ℕ} → n ≡ basisRefusal unit atten basis → n ≡ decoding
   unfolding decodeRefusal
-  decode-source e s h = h ∙ rw (s, e)
+  decode-basis e s h = h ∙ rw (s, e)
 
   -- and what it tells
   pub decode-passed-on : {why : Refusal} → why ≡ toldOf words Esp32 map input → (why .number ≡ 0 → ⊥) → why ≡ toldOf words Esp32 map decoding
   decode-passed-on e h =
       let n = told-is-number words map Esp32 e in told-same words map Esp32 e (sym (decode-input n h) ∙ n)
 
-  pub decode-nine : input ≡ 0 → {source : Source} → source ≡ sourceOf dump map unit → {n : ℕ} → n ≡ sourceRefusal unit atten source
+  pub decode-nine : input ≡ 0 → {basis : Basis} → basis ≡ basisOf dump map unit → {n : ℕ} → n ≡ basisRefusal unit atten basis
       → {why : Refusal} → why ≡ plain n → why ≡ toldOf words Esp32 map decoding
-  decode-nine e s h p = told-as words map Esp32 p (rw h (source-plain unit atten _)) (sym (decode-source e s h))
+  decode-nine e s h p = told-as words map Esp32 p (rw h (basis-plain unit atten _)) (sym (decode-basis e s h))
 
   -- what is known where nothing is refused
   pub decode-good : decoding ≡ 0
-      → (fieldsRefusal words Esp32 dump map ≡ 0) × ((unit ≤ 1) × (atten ≤ 3)) × (sourceRefusal unit atten (sourceOf dump map unit) ≡ 0)
+      → (fieldsRefusal words Esp32 dump map ≡ 0) × ((unit ≤ 1) × (atten ≤ 3)) × (basisRefusal unit atten (basisOf dump map unit) ≡ 0)
   unfolding decodeRefusal
   decode-good e =
       let p = orElse-none input _ e in
@@ -86,5 +87,10 @@ module _ (words : ℕ → ℕ) (dump map : List ℕ) (unit atten : ℕ) where
   decoded-passes e =
       let good = decode-good e in
       let vref = vref-range (vref-fits words dump map (good .0)) in
-      let line = line-ranges unit atten (vrefOf (valueById Esp32 dump map 1)) (sourceOf dump map unit) (vref .1) (good .2) in
-      record-good _ (record { a = line .0; b = line .1; vref-least = vref .0; vref-most = vref .1; unit = good .1 .0 })
+      let mv : ℕ = vrefOf (valueById Esp32 dump map 1) in
+      let line = line-ranges unit atten mv (basisOf dump map unit) (vref .1) (good .2) in
+      record-good _
+      (record {
+        ranges = record { a = line .0; b = line .1; vref-least = vref .0; vref-most = vref .1; unit = good .1 .0; atten = good .1 .1 };
+        line = λ s. let by = by-vref unit atten mv (basisOf dump map unit) s in record { a = ap (λ (l : Coefficients). l .a) by; b = ap (λ (l : Coefficients). l .b) by };
+      })

@@ -1,4 +1,4 @@
--- Each number of decoding is given exactly when: those that every decoder begins with, then the source's. Assumes nothing.
+-- Each number of decoding is given exactly when: those that every decoder begins with, then the basis's. Assumes nothing.
 use mathlib.Core.Path.{_≡_, refl, sym, _∙_}
 use mathlib.Core.Bool.{true, false, true≢false}
 use mathlib.Core.List.{List}
@@ -12,12 +12,12 @@ use Rattle.terms.proofs.Order.{either, whether}
 use Rattle.inputs.specs.Input.{decodingRefusal}
 use Rattle.inputs.specs.When.{DecodingWhen}
 use Rattle.inputs.proofs.Exactly.{decoding-exactly}
-use Rattle.esp32.specs.Characterize.{tpOffset, sourceRefusal}
-use Rattle.esp32.specs.Decode.{twoPointUsed, sourceOf, decodeRefusal}
+use Rattle.esp32.specs.Characterize.{tpOffset, basisRefusal}
+use Rattle.esp32.specs.Decode.{twoPointUsed, basisOf, decodeRefusal}
 use Rattle.esp32.specs.When.{topFor, bFor, DecodeWhen, before, underflow, decoded}
 use Rattle.esp32.proofs.Coefficients.{b-negative, b-not-negative, b-refused, b-good}
-use Rattle.esp32.proofs.Sources.{source-two-point, source-vref}
-use Rattle.esp32.proofs.Decoding.{decode-input, decode-source}
+use Rattle.esp32.proofs.Bases.{basis-two-point, basis-vref}
+use Rattle.esp32.proofs.Decoding.{decode-input, decode-basis}
 
 module _ (words : ℕ → ℕ) (dump map : List ℕ) (unit atten : ℕ) where
   abbrev number : ℕ
@@ -29,36 +29,36 @@ module _ (words : ℕ → ℕ) (dump map : List ℕ) (unit atten : ℕ) where
   abbrev input : Exactly (decodingRefusal words Esp32 dump map unit atten) Before
   input = decoding-exactly words Esp32 dump map unit atten
 
-  -- the unit's b at the attenuation, and the number that its source gives
+  -- the unit's b at the attenuation, and the number that its basis gives
   abbrev b : ℤ
   b = bFor dump map unit atten
 
-  abbrev source : ℕ
-  source = sourceRefusal unit atten (sourceOf dump map unit)
+  abbrev basis : ℕ
+  basis = basisRefusal unit atten (basisOf dump map unit)
 
-  source-underflow : twoPointUsed dump map ≡ true → b <ℤ pos 0 → source ≡ 9
-  unfolding sourceRefusal
-  source-underflow t h = rw (source-two-point dump map unit t) (b-refused _ _ h)
+  basis-underflow : twoPointUsed dump map ≡ true → b <ℤ pos 0 → basis ≡ 9
+  unfolding basisRefusal
+  basis-underflow t h = rw (basis-two-point dump map unit t) (b-refused _ _ h)
 
-  source-good : twoPointUsed dump map ≡ true → pos 0 ≤ℤ b → source ≡ 0
-  unfolding sourceRefusal
-  source-good t h = rw (source-two-point dump map unit t) (b-good _ _ h)
+  basis-good : twoPointUsed dump map ≡ true → pos 0 ≤ℤ b → basis ≡ 0
+  unfolding basisRefusal
+  basis-good t h = rw (basis-two-point dump map unit t) (b-good _ _ h)
 
-  source-never : twoPointUsed dump map ≡ false → source ≡ 0
-  unfolding sourceRefusal
-  source-never t = rw (source-vref dump map unit t)
+  basis-never : twoPointUsed dump map ≡ false → basis ≡ 0
+  unfolding basisRefusal
+  basis-never t = rw (basis-vref dump map unit t)
 
-  by-source : Before 0 → {n : ℕ} → source ≡ n → number ≡ n
-  by-source k e = sym (decode-source _ _ _ _ _ (input 0 .1 k) refl (sym e))
+  by-basis : Before 0 → {n : ℕ} → basis ≡ n → number ≡ n
+  by-basis k e = sym (decode-basis _ _ _ _ _ (input 0 .1 k) refl (sym e))
 
   decode-gives : (n : ℕ) → DecodeWhen words dump map unit atten n → number ≡ n
   decode-gives n (before k some) = sym (decode-input _ _ _ _ _ (sym (input n .1 k)) some)
-  decode-gives _ (underflow k t h) = by-source k (source-underflow t h)
+  decode-gives _ (underflow k t h) = by-basis k (basis-underflow t h)
   decode-gives _ (decoded k h) =
-      whether (twoPointUsed dump map) (λ t. by-source k (source-good t (h t))) (λ t. by-source k (source-never t))
+      whether (twoPointUsed dump map) (λ t. by-basis k (basis-good t (h t))) (λ t. by-basis k (basis-never t))
 
-  source-some : Before 0 → Some (DecodeWhen words dump map unit atten)
-  source-some k =
+  basis-some : Before 0 → Some (DecodeWhen words dump map unit atten)
+  basis-some k =
       whether (twoPointUsed dump map)
       (λ t.
       either (topFor dump map unit) (850 + tpOffset unit atten)
@@ -67,4 +67,4 @@ module _ (words : ℕ → ℕ) (dump map : List ℕ) (unit atten : ℕ) where
       (λ t. (0, decoded k (λ s. absurd (true≢false (sym s ∙ t)))))
 
   pub decode-exactly : Exactly number (DecodeWhen words dump map unit atten)
-  decode-exactly = exactly decode-gives (by-first input source-some (λ n k some. (n, before k some)))
+  decode-exactly = exactly decode-gives (by-first input basis-some (λ n k some. (n, before k some)))

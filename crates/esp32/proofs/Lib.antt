@@ -1,9 +1,10 @@
+pub mod Bases
 pub mod Codes
 pub mod Coefficients
 pub mod Decoding
 pub mod ExactSum
 pub mod Exactly
 pub mod Says
-pub mod Sources
 pub mod Tells
+pub mod TrueSource
 pub mod Unique

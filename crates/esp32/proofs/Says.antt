@@ -1,12 +1,14 @@
 -- The refusal and the values of each answer are document 01's. Assumes nothing.
-use mathlib.Core.Path.{_≡_, refl}
+use mathlib.Core.Path.{_≡_, refl, sym, _∙_, ap}
 use mathlib.Core.List.{List}
 use Prim.Native.Nat.{ℕ}
 use Rattle.terms.specs.declared.chip.MapChip.the-variants.{Esp32}
 use Rattle.terms.specs.Says.{Says}
+use Rattle.terms.proofs.Refusals.{byNumber-good, number-is}
 use Rattle.terms.proofs.Says.{Paper}
 use Rattle.maps.specs.Told.{toldOf}
-use Rattle.maps.proofs.Told.{told-is-number, map-says}
+use Rattle.maps.proofs.Told.{told-number, told-is-number, map-says}
+use Rattle.line_record.specs.declared.record.LineRecord.{LineRecord}
 use Rattle.line_record.specs.declared.decoded.Decoded.the-variants.{Record, Refused}
 use Rattle.line_record.specs.Decoded.{refusalOf, noRecord, valueOf}
 use Rattle.esp32.specs.Decode.{decodedRecord, decodeRefusal, decodeOf}
@@ -25,3 +27,11 @@ module _ (words : ℕ → ℕ) (dump map : List ℕ) (unit atten : ℕ) where
   -- the number of what `decode` answers
   pub number-says : refusalOf (decodeOf words dump map unit atten) .number ≡ decodeRefusal words dump map unit atten
   number-says = told-is-number words map Esp32 (decode-says .refusal-is)
+
+  -- where it answers a record, nothing is refused, and the record is the decoded one
+  module _ {r : LineRecord} (e : decodeOf words dump map unit atten ≡ Record r) where
+    pub record-none : decodeRefusal words dump map unit atten ≡ 0
+    record-none = sym number-says ∙ number-is (ap refusalOf e)
+
+    pub record-is : r ≡ decodedRecord dump map unit atten
+    record-is = sym (ap valueOf e) ∙ decode-says .value-is ∙ byNumber-good _ _ _ (told-number words map Esp32 _ ∙ record-none)

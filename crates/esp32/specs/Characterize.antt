@@ -9,8 +9,8 @@ use Rattle.terms.specs.Refusal.{refuse}
 use Rattle.terms.specs.Unit.{entryOf}
 use Rattle.vref.specs.declared.coefficients.Coefficients.{Coefficients}
 use Rattle.vref.specs.Coefficients.{vrefLine}
-use Rattle.esp32.specs.declared.characterize.Source.{Source}
-use Rattle.esp32.specs.declared.characterize.Source.the-variants.{TwoPoint, Vref}
+use Rattle.esp32.specs.declared.characterize.Basis.{Basis}
+use Rattle.esp32.specs.declared.characterize.Basis.the-variants.{TwoPoint, Vref}
 use Rattle.esp32.specs.Code.{lowOf, highOf}
 
 -- "Scales and offsets are the crate's four-entry tables", of which each unit has its own, with an entry for each attenuation
@@ -61,12 +61,12 @@ twoPointLine unit atten low high =
 abbrev pub twoPointRefusal : ℕ → ℕ → ℕ → ℕ → ℕ
 twoPointRefusal unit atten low high = bRefusal (topOf low high) (tpOffset unit atten)
 
--- A source is `TwoPoint`, with the raw bits of the unit's low and high codes, or `Vref`: a and b from it
-unfoldable pub coefficientsOf : ℕ → ℕ → ℕ → Source → Coefficients
+-- A basis is `TwoPoint`, with the raw bits of the unit's low and high codes, or `Vref`: a and b from it
+unfoldable pub coefficientsOf : ℕ → ℕ → ℕ → Basis → Coefficients
 coefficientsOf unit atten vref (TwoPoint low high) = twoPointLine unit atten (lowOf unit low) (highOf unit high)
 coefficientsOf unit atten vref Vref = vrefLine unit atten vref
 
 -- 9 from it; Vref never gives it
-unfoldable pub sourceRefusal : ℕ → ℕ → Source → ℕ
-sourceRefusal unit atten (TwoPoint low high) = twoPointRefusal unit atten (lowOf unit low) (highOf unit high)
-sourceRefusal unit atten Vref = 0
+unfoldable pub basisRefusal : ℕ → ℕ → Basis → ℕ
+basisRefusal unit atten (TwoPoint low high) = twoPointRefusal unit atten (lowOf unit low) (highOf unit high)
+basisRefusal unit atten Vref = 0

@@ -13,14 +13,15 @@ use Rattle.inputs.specs.Input.{decodingRefusal}
 use Rattle.maps.specs.Told.{toldOf}
 use Rattle.maps.specs.Value.{valueById}
 use Rattle.line_record.specs.declared.record.LineRecord.{LineRecord}
-use Rattle.esp32.specs.declared.characterize.Source.{Source}
-use Rattle.esp32.specs.declared.characterize.Source.the-variants.{TwoPoint, Vref}
+use Rattle.line_record.specs.declared.record.Source.{Source}
+use Rattle.line_record.specs.declared.record.Source.the-variants as source
+use Rattle.esp32.specs.declared.characterize.Basis.{Basis}
+use Rattle.esp32.specs.declared.characterize.Basis.the-variants.{TwoPoint, Vref}
 use Rattle.esp32.specs.declared.decode.Found.{Found}
 use Rattle.line_record.specs.declared.decoded.Decoded.{Decoded}
 use Rattle.line_record.specs.declared.decoded.Decoded.the-variants.{Record, Refused}
-use Rattle.line_record.specs.Record.{recordOf}
 use Rattle.esp32.specs.Code.{vrefOf}
-use Rattle.esp32.specs.Characterize.{coefficientsOf, sourceRefusal}
+use Rattle.esp32.specs.Characterize.{coefficientsOf, basisRefusal}
 
 -- id 2 is BLK3_PART_RESERVE, 3 and 4 are ADC1_TP_LOW and ADC2_TP_LOW, 5 and 6 ADC1_TP_HIGH and ADC2_TP_HIGH.
 -- "Two-point is used exactly if the reserve bit is 1 and all four codes' raw bits are nonzero"
@@ -40,19 +41,32 @@ abbrev pub highBits : List ℕ → List ℕ → ℕ → ℕ
 highBits dump map unit = byUnit unit (valueById Esp32 dump map 5) (valueById Esp32 dump map 6)
 
 -- "else Vref"
-unfoldable pub sourceOf : List ℕ → List ℕ → ℕ → Source
-sourceOf dump map unit = cond (twoPointUsed dump map) (TwoPoint (lowBits dump map unit) (highBits dump map unit)) Vref
+unfoldable pub basisOf : List ℕ → List ℕ → ℕ → Basis
+basisOf dump map unit = cond (twoPointUsed dump map) (TwoPoint (lowBits dump map unit) (highBits dump map unit)) Vref
 
 -- what a record is made from: where a and b come from, the raw bits of ADC_VREF, which is id 1, and a and b
 unfoldable pub foundOf : List ℕ → List ℕ → ℕ → ℕ → Found
 foundOf dump map unit atten =
-    let source : Source = sourceOf dump map unit in
+    let basis : Basis = basisOf dump map unit in
     let vref : ℕ = valueById Esp32 dump map 1 in
-    record { source = source; vref = vref; line = coefficientsOf unit atten (vrefOf vref) source }
+    record { basis = basis; vref = vref; line = coefficientsOf unit atten (vrefOf vref) basis }
 
--- the record made from it; its Vref is that of id 1, whatever a and b come from
+-- document 02, #106: "The line record gains its source", which is two points or Vref, without the codes
+unfoldable pub sourceOf : Basis → Source
+sourceOf (TwoPoint low high) = source.TwoPoint
+sourceOf Vref = source.Vref
+
+-- the record made from it; its Vref is that of id 1, whatever a and b come from. "The line record gains .. its attenuation"
 abbrev pub recordFrom : Found → ℕ → ℕ → LineRecord
-recordFrom found unit atten = recordOf (found .line .a) (found .line .b) (vrefOf (found .vref)) unit atten
+recordFrom found unit atten =
+    record {
+      «coeff_a» = found .line .a;
+      «coeff_b» = found .line .b;
+      vref = vrefOf (found .vref);
+      unit = unit;
+      atten = atten;
+      source = sourceOf (found .basis);
+    }
 
 unfoldable pub decodedRecord : List ℕ → List ℕ → ℕ → ℕ → LineRecord
 decodedRecord dump map unit atten = recordFrom (foundOf dump map unit atten) unit atten
@@ -61,7 +75,7 @@ decodedRecord dump map unit atten = recordFrom (foundOf dump map unit atten) uni
 unfoldable pub decodeRefusal : (ℕ → ℕ) → List ℕ → List ℕ → ℕ → ℕ → ℕ
 decodeRefusal words dump map unit atten =
     orElse (decodingRefusal words Esp32 dump map unit atten)
-    (sourceRefusal unit atten (sourceOf dump map unit))
+    (basisRefusal unit atten (basisOf dump map unit))
 
 -- "Decoding answers a record or one number"
 unfoldable pub decodeOf : (ℕ → ℕ) → List ℕ → List ℕ → ℕ → ℕ → Decoded

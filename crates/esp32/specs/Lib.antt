@@ -3,4 +3,5 @@ pub mod Code
 pub mod Decode
 pub mod ExactSum
 pub mod Private
+pub mod TrueSource
 pub mod When

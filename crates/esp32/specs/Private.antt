@@ -3,8 +3,8 @@ use mathlib.Core.List.{_++_}
 use Prim.Native.Nat.{ℕ, _+_, _*_, _-_, _^_, _≤_, _<_}
 use lib.ListN.{getD}
 use Rattle.vref.specs.declared.coefficients.Atten.{Atten}
-use Rattle.esp32.specs.declared.characterize.Source.{Source}
-use Rattle.esp32.specs.declared.characterize.Source.the-variants.{TwoPoint, Vref}
+use Rattle.esp32.specs.declared.characterize.Basis.{Basis}
+use Rattle.esp32.specs.declared.characterize.Basis.the-variants.{TwoPoint, Vref}
 use Rattle.esp32.specs.Characterize.{adc1TpScale, adc2TpScale, adc1TpOffset, adc2TpOffset}
 
 -- a code of that width, at a base that it doesn't take below zero
@@ -20,8 +20,8 @@ pub record Apart (low high : ℕ) : Type 0 where
   pub least : low + 1713 ≤ high
   pub most : high ≤ 4426
 
--- a source's codes, which "7 and 9 bits" can hold
-abbrev pub InBits : Source → Type 0
+-- a basis's codes, which "7 and 9 bits" can hold
+abbrev pub InBits : Basis → Type 0
 InBits (TwoPoint low high) = (low < 128) × (high < 512)
 InBits Vref = Unit
 

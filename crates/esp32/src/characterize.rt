@@ -9,7 +9,7 @@ ghost use mathlib.Core.Path.{_≡_};
 ghost use Prim.Native.Nat.{_≤_, _<_};
 ghost use Rattle.esp32.specs.Private.{Apart, InBits, tpAttenOf};
 ghost use Rattle.esp32.specs.Characterize.{tpScale, tpOffset, twoPointA, topOf, bRefusal, twoPointB, twoPointLine, twoPointRefusal};
-ghost use Rattle.esp32.specs.Characterize.{coefficientsOf, sourceRefusal};
+ghost use Rattle.esp32.specs.Characterize.{coefficientsOf, basisRefusal};
 
 const TP_LOW_VOLTAGE: u32 = 150;
 
@@ -18,7 +18,7 @@ const TP_HIGH_VOLTAGE: u32 = 850;
 const DELTA_V: u32 = TP_HIGH_VOLTAGE - TP_LOW_VOLTAGE;
 
 // Where a and b come from: two points, with the raw bits of the unit's low and high codes, or Vref.
-pub(crate) enum Source {
+pub(crate) enum Basis {
     TwoPoint(u32, u32),
     Vref,
 }
@@ -108,13 +108,13 @@ fn two_point_refusal(unit: u8, atten: u8, high: u32, low: u32) -> u8
     b_refusal(top(low, high), entry.1)
 }
 
-// 9 where the source is two points that make b negative.
-pub(crate) fn source_refusal(unit: u8, atten: u8, source: Source) -> u8
-    requires { ⌜ (unit ≤ 1) × (atten ≤ 3) × InBits source ⌝ }
-    ensures { λ r. ⌜ r ≡ sourceRefusal unit atten source ⌝ }
+// 9 where the basis is two points that make b negative.
+pub(crate) fn basis_refusal(unit: u8, atten: u8, basis: Basis) -> u8
+    requires { ⌜ (unit ≤ 1) × (atten ≤ 3) × InBits basis ⌝ }
+    ensures { λ r. ⌜ r ≡ basisRefusal unit atten basis ⌝ }
 {
-    match source {
-        Source::TwoPoint(low, high) => {
+    match basis {
+        Basis::TwoPoint(low, high) => {
             two_point_refusal(
                 unit,
                 atten,
@@ -122,17 +122,17 @@ pub(crate) fn source_refusal(unit: u8, atten: u8, source: Source) -> u8
                 code::efuse_tp_low(unit, low),
             )
         }
-        Source::Vref => refusal::NONE,
+        Basis::Vref => refusal::NONE,
     }
 }
 
-// The coefficients from a source that isn't refused; Vref in millivolts.
-pub(crate) fn characterize(unit: u8, atten: u8, vref: u32, source: Source) -> Coefficients
-    requires { ⌜ (unit ≤ 1) × (atten ≤ 3) × (vref ≤ 1205) × InBits source × (sourceRefusal unit atten source ≡ 0) ⌝ }
-    ensures { λ r. ⌜ r ≡ coefficientsOf unit atten vref source ⌝ }
+// The coefficients from a basis that isn't refused; Vref in millivolts.
+pub(crate) fn characterize(unit: u8, atten: u8, vref: u32, basis: Basis) -> Coefficients
+    requires { ⌜ (unit ≤ 1) × (atten ≤ 3) × (vref ≤ 1205) × InBits basis × (basisRefusal unit atten basis ≡ 0) ⌝ }
+    ensures { λ r. ⌜ r ≡ coefficientsOf unit atten vref basis ⌝ }
 {
-    match source {
-        Source::TwoPoint(low, high) => {
+    match basis {
+        Basis::TwoPoint(low, high) => {
             characterize_using_two_point(
                 unit,
                 atten,
@@ -140,6 +140,6 @@ pub(crate) fn characterize(unit: u8, atten: u8, vref: u32, source: Source) -> Co
                 code::efuse_tp_low(unit, low),
             )
         }
-        Source::Vref => vref_line(unit, atten, vref as u16),
+        Basis::Vref => vref_line(unit, atten, vref as u16),
     }
 }

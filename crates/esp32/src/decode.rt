@@ -1,11 +1,11 @@
 // Decoding: the line record of a unit at an attenuation, from a dump and its map. In esp-hal: `new_cal`.
 use crate::characterize;
-use crate::characterize::Source;
+use crate::characterize::Basis;
 use crate::code;
 use inputs::input::decoding_refusal;
 use line_record::decoded::Decoded;
-use line_record::record;
 use line_record::record::LineRecord;
+use line_record::record::Source;
 use maps::value::record_value;
 use terms::chip::MapChip;
 use terms::refusal;
@@ -15,7 +15,7 @@ ghost use Prim.Native.Nat.{_<_};
 ghost use Rattle.terms.specs.declared.chip.MapChip.the-variants.{Esp32};
 ghost use Rattle.dumps.specs.Dump.{eight};
 ghost use Rattle.inputs.specs.Input.{fieldsRefusal};
-ghost use Rattle.esp32.specs.Decode.{sourceOf, foundOf, recordFrom, decodeRefusal, decodeOf};
+ghost use Rattle.esp32.specs.Decode.{basisOf, sourceOf, foundOf, recordFrom, decodeRefusal, decodeOf};
 
 // Where an ESP32 map has its fields, whose ids are from 1 to 6.
 const ADC_VREF: usize = 0;
@@ -32,49 +32,59 @@ const ADC2_TP_HIGH: usize = 5;
 
 // What a record is made from: where a and b come from with the raw codes, the raw bits of ADC_VREF, and a and b.
 pub(crate) struct Found {
-    pub(crate) source: Source,
+    pub(crate) basis: Basis,
     pub(crate) vref: u32,
     pub(crate) line: Coefficients,
 }
 
 // Where a unit's a and b come from. In esp-hal: `check_efuse_tp`.
-fn source(dump: &[u32], map: &[u8], unit: u8) -> Source
+fn basis(dump: &[u32], map: &[u8], unit: u8) -> Basis
     requires { ⌜ fieldsRefusal eight Esp32 (now dump) (now map) ≡ 0 ⌝ }
-    ensures { λ r. ⌜ r ≡ sourceOf (now (dump .entry)) (now (map .entry)) unit ⌝ }
+    ensures { λ r. ⌜ r ≡ basisOf (now (dump .entry)) (now (map .entry)) unit ⌝ }
 {
     if record_value(dump, map, BLK3_PART_RESERVE) != 1 {
-        return Source::Vref;
+        return Basis::Vref;
     }
     let low1 = record_value(dump, map, ADC1_TP_LOW);
     if low1 == 0 {
-        return Source::Vref;
+        return Basis::Vref;
     }
     let low2 = record_value(dump, map, ADC2_TP_LOW);
     if low2 == 0 {
-        return Source::Vref;
+        return Basis::Vref;
     }
     let high1 = record_value(dump, map, ADC1_TP_HIGH);
     if high1 == 0 {
-        return Source::Vref;
+        return Basis::Vref;
     }
     let high2 = record_value(dump, map, ADC2_TP_HIGH);
     if high2 == 0 {
-        return Source::Vref;
+        return Basis::Vref;
     }
-    Source::TwoPoint(
+    Basis::TwoPoint(
         code::by_unit(unit, low1, low2),
         code::by_unit(unit, high1, high2),
     )
 }
 
 // What the record of a unit at an attenuation is made from, where nothing is refused.
-fn find(dump: &[u32], map: &[u8], unit: u8, atten: u8, source: Source) -> Found
-    requires { ⌜ (decodeRefusal eight (now dump) (now map) unit atten ≡ 0) × (source ≡ sourceOf (now dump) (now map) unit) ⌝ }
+fn find(dump: &[u32], map: &[u8], unit: u8, atten: u8, basis: Basis) -> Found
+    requires { ⌜ (decodeRefusal eight (now dump) (now map) unit atten ≡ 0) × (basis ≡ basisOf (now dump) (now map) unit) ⌝ }
     ensures { λ r. ⌜ r ≡ foundOf (now (dump .entry)) (now (map .entry)) unit atten ⌝ }
 {
     let vref = record_value(dump, map, ADC_VREF);
-    let line = characterize::characterize(unit, atten, code::efuse_vref(vref), source);
-    Found { source, vref, line }
+    let line = characterize::characterize(unit, atten, code::efuse_vref(vref), basis);
+    Found { basis, vref, line }
+}
+
+// The source of a record whose a and b come from there: without the codes.
+fn source(basis: Basis) -> Source
+    ensures { λ r. ⌜ r ≡ sourceOf basis ⌝ }
+{
+    match basis {
+        Basis::TwoPoint(_, _) => Source::TwoPoint,
+        Basis::Vref => Source::Vref,
+    }
 }
 
 // The record that is made from it.
@@ -83,7 +93,15 @@ fn record_from(found: Found, unit: u8, atten: u8) -> LineRecord
     ensures { λ r. ⌜ r ≡ recordFrom found unit atten ⌝ }
 {
     let line = found.line;
-    record::line_record(line.a, line.b, code::efuse_vref(found.vref), unit, atten)
+    let basis = found.basis;
+    LineRecord {
+        coeff_a: line.a,
+        coeff_b: line.b,
+        vref: code::efuse_vref(found.vref),
+        unit,
+        atten,
+        source: source(basis),
+    }
 }
 
 // The line record of a unit at an attenuation, from a dump and its map. It passes `check_record`. Any dump, map, unit and
@@ -95,10 +113,10 @@ pub fn decode(dump: &[u32], map: &[u8], unit: u8, atten: u8) -> Decoded
     if why.number != refusal::NONE {
         return Decoded::Refused(why);
     }
-    let source = source(dump, map, unit);
-    let number = characterize::source_refusal(unit, atten, source);
+    let basis = basis(dump, map, unit);
+    let number = characterize::basis_refusal(unit, atten, basis);
     if number != refusal::NONE {
         return Decoded::Refused(refusal::plain(number));
     }
-    Decoded::Record(record_from(find(dump, map, unit, atten, source), unit, atten))
+    Decoded::Record(record_from(find(dump, map, unit, atten, basis), unit, atten))
 }

@@ -10,6 +10,7 @@ use Rattle.terms.specs.Voltage.{valueOf}
 use Rattle.terms.proofs.Order.{zero-or}
 use Rattle.terms.proofs.Refusals.{byNumber-good, byNumber-refused, answered-refused}
 use Rattle.line_record.specs.declared.record.LineRecord.{LineRecord}
+use Rattle.line_record.proofs.Records.{record-sound}
 use Rattle.line.specs.Convert.{answerAt, convertRefusal, convertOf}
 use Rattle.line.proofs.Answers.{answer-most}
 use Rattle.line.proofs.Exactly.{convert-good}
@@ -30,5 +31,5 @@ module _ (r : LineRecord) (raw : ℕ) where
   convert-most =
       rw (convert-says r raw .value-is)
       (zero-or (convertRefusal r raw)
-      (λ e. let good = convert-good r raw e in rw e (answer-most r (good .0) raw (good .1)))
+      (λ e. let good = convert-good r raw e in rw e (answer-most r (record-sound r (good .0)) raw (good .1)))
       (λ some. rw (byNumber-refused {A = Millivolt} (convertRefusal r raw) _ (record { 0 = 0 }) some) (omega arith)))

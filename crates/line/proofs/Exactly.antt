@@ -5,8 +5,9 @@ use Rattle.terms.specs.Exactly.{Exactly}
 use Rattle.terms.proofs.Exactly.{Some, exactly, case, raw-exactly}
 use Rattle.terms.proofs.Refusals.{raw-inside}
 use Rattle.line_record.specs.declared.record.LineRecord.{LineRecord}
-use Rattle.line_record.specs.When.{InRanges, RecordWhen, bad-record, good-record}
-use Rattle.line_record.proofs.Exactly.{record-exactly, ranges}
+use Rattle.line_record.specs.Record.{recordRefusal}
+use Rattle.line_record.specs.When.{RecordWhen, bad-record, good-record}
+use Rattle.line_record.proofs.Exactly.{record-exactly}
 use Rattle.line.specs.Convert.{convertRefusal}
 use Rattle.line.specs.When.{ConvertWhen, convert-record, convert-raw}
 
@@ -24,8 +25,8 @@ module _ (r : LineRecord) (raw : ℕ) where
   convert-exactly = exactly convert-gives (convert-by _ (case (record-exactly r)))
 
   -- what is known where nothing is refused
-  convert-none : ConvertWhen r raw 0 → InRanges r × (raw ≤ 4095)
-  convert-none (convert-raw w h) = (ranges r w, raw-inside raw (raw-exactly raw 0 .1 h))
+  convert-none : ConvertWhen r raw 0 → (recordRefusal r ≡ 0) × (raw ≤ 4095)
+  convert-none (convert-raw w h) = (record-exactly r 0 .1 w, raw-inside raw (raw-exactly raw 0 .1 h))
 
-  pub convert-good : convertRefusal r raw ≡ 0 → InRanges r × (raw ≤ 4095)
+  pub convert-good : convertRefusal r raw ≡ 0 → (recordRefusal r ≡ 0) × (raw ≤ 4095)
   convert-good e = convert-none (convert-exactly 0 .0 e)

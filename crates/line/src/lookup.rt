@@ -1,12 +1,13 @@
 // The lookup: voltages from count 2880 on, between points that stand 64 counts apart. In esp-hal: `calculate_voltage_lut`.
 use line_record::record::LineRecord;
-use line_record::record::record_refusal;
+use line_record::record::in_ranges;
 use lut::row::lut_row;
 use terms::refusal;
 ghost use mathlib.Core.Path.{_≡_};
+ghost use mathlib.Core.Bool.{true};
 ghost use Prim.Native.Nat.{_+_, _*_, _-_, _/_, _%_, _≤_};
 ghost use Rattle.lut.specs.Point.{pointAt};
-ghost use Rattle.line_record.specs.Record.{recordRefusal};
+ghost use Rattle.line_record.specs.Record.{inRanges};
 ghost use Rattle.line.specs.Lookup.{hasLookup, lookupVoltage, slopeFrom, lutSlope};
 
 pub const LUT_LOW_THRESH: u32 = 2880;
@@ -34,7 +35,7 @@ pub struct Slope {
 // `LUT_VREF_SPAN` times the millivolts at the point of a count's step, or at the next one: the low ones, and as much of the way to the
 // high ones as Vref is above `LUT_VREF_LOW`. By the tables no difference here is below zero.
 fn point(cal: LineRecord, raw: u32, next: u32) -> u32
-    requires { ⌜ (recordRefusal cal ≡ 0) × (2880 ≤ raw) × (raw ≤ 4095) × (next ≤ 1) ⌝ }
+    requires { ⌜ (inRanges cal ≡ true) × (2880 ≤ raw) × (raw ≤ 4095) × (next ≤ 1) ⌝ }
     ensures { λ r. ⌜ r ≡ pointAt (cal .unit) (cal .vref) ((raw - 2880) / 64 + next) ⌝ }
 {
     let unit = cal.unit;
@@ -59,7 +60,7 @@ fn lut_sum(here: u32, there: u32, raw: u32) -> u32
 // The lookup's millivolts at a count. What it has in common with `step_slope` is as small as this, so that each is compiled into its one
 // caller.
 pub(crate) fn calculate_voltage_lut(cal: LineRecord, raw: u32) -> u32
-    requires { ⌜ (recordRefusal cal ≡ 0) × (2880 ≤ raw) × (raw ≤ 4095) ⌝ }
+    requires { ⌜ (inRanges cal ≡ true) × (2880 ≤ raw) × (raw ≤ 4095) ⌝ }
     ensures { λ r. ⌜ r ≡ lookupVoltage cal raw ⌝ }
 {
     let here = point(cal, raw, 0);
@@ -69,7 +70,7 @@ pub(crate) fn calculate_voltage_lut(cal: LineRecord, raw: u32) -> u32
 
 // The lookup's slope from one of its counts.
 fn step_slope(cal: LineRecord, raw: u32) -> Slope
-    requires { ⌜ (recordRefusal cal ≡ 0) × (2880 ≤ raw) × (raw ≤ 4095) ⌝ }
+    requires { ⌜ (inRanges cal ≡ true) × (2880 ≤ raw) × (raw ≤ 4095) ⌝ }
     ensures { λ r. ⌜ r ≡ slopeFrom cal raw ⌝ }
 {
     let here = point(cal, raw, 0);
@@ -84,13 +85,7 @@ fn step_slope(cal: LineRecord, raw: u32) -> Slope
 fn has_lookup(cal: LineRecord, raw: u32) -> bool
     ensures { λ r. ⌜ r ≡ hasLookup cal raw ⌝ }
 {
-    if record_refusal(cal) != refusal::NONE {
-        return false;
-    }
-    if raw < LUT_LOW_THRESH {
-        return false;
-    }
-    raw <= refusal::LAST_COUNT as u32
+    in_ranges(cal) & (LUT_LOW_THRESH <= raw) & (raw <= refusal::LAST_COUNT as u32)
 }
 
 // The lookup's slope from a count up to the next point, whose divisor is `LUT_SCALE`; zeros where there is none.

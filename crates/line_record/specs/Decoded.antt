@@ -1,8 +1,8 @@
 -- Document 01, "ESP32 line rules": decoding answers a record or one number.
-use mathlib.Core.Bool.{false}
 use Rattle.terms.specs.declared.refusal.Refusal.{Refusal}
 use Rattle.terms.specs.Refusal.{plain}
 use Rattle.line_record.specs.declared.record.LineRecord.{LineRecord}
+use Rattle.line_record.specs.declared.record.Source.the-variants.{TwoPoint}
 use Rattle.line_record.specs.declared.decoded.Decoded.{Decoded}
 use Rattle.line_record.specs.declared.decoded.Decoded.the-variants.{Record, Refused}
 
@@ -12,7 +12,7 @@ refusalOf (Record r) = plain 0
 refusalOf (Refused r) = r
 
 abbrev pub noRecord : LineRecord
-noRecord = record { «coeff_a» = 0; «coeff_b» = 0; vref = 0; unit = 0; «use_lut» = false }
+noRecord = record { «coeff_a» = 0; «coeff_b» = 0; vref = 0; unit = 0; atten = 0; source = TwoPoint }
 
 abbrev pub valueOf : Decoded → LineRecord
 valueOf (Record r) = r

@@ -1,3 +1,4 @@
 pub mod Decoded
 pub mod Record
+pub mod VrefRecords
 pub mod When

@@ -11,9 +11,9 @@ use Rattle.inputs.specs.Input.{decodingRefusal}
 use Rattle.maps.specs.Value.{valueById}
 use Rattle.vref.specs.Coefficients.{vrefScale, vrefOffset}
 use Rattle.esp32.specs.Code.{vrefOf, twoPointCode, pointOf, lowOf, highOf}
-use Rattle.esp32.specs.Characterize.{tpScale, tpOffset, twoPointA, topOf, bOf, bRefusal, twoPointB, coefficientsOf, sourceRefusal}
-use Rattle.esp32.specs.Decode.{twoPointUsed, sourceOf, foundOf, decodedRecord, decodeRefusal, decodeOf}
-use Rattle.line_record.specs.Record.{usesLookup, recordRefusal}
+use Rattle.esp32.specs.Characterize.{tpScale, tpOffset, twoPointA, topOf, bOf, bRefusal, twoPointB, coefficientsOf, basisRefusal}
+use Rattle.esp32.specs.Decode.{twoPointUsed, basisOf, sourceOf, foundOf, decodedRecord, decodeRefusal, decodeOf}
+use Rattle.line_record.specs.Record.{usesLookup, inRanges, hasVrefLine, fitsSource, goodRecord, recordRefusal}
 use Rattle.lut.specs.Row.{lowAt, highAt}
 use Rattle.lut.specs.Lookup.{numeratorAt, voltageAt}
 use Rattle.line.specs.Convert.{lineVoltage, blendOf, beyondLine, answerAt, convertRefusal, convertOf}
@@ -32,10 +32,10 @@ use Rattle.marked.specs.Cases.{Case, cases}
 pub marked : map (λ (c : Case). c .asked) cases ≡ map (λ (c : Case). c .answer) cases
 unfolding
     vrefOf twoPointCode pointOf lowOf highOf signMagnitude
-    tpScale tpOffset vrefScale vrefOffset twoPointA topOf bOf bRefusal twoPointB coefficientsOf sourceRefusal
-    usesLookup recordRefusal lowAt highAt numeratorAt voltageAt lineVoltage blendOf beyondLine answerAt convertRefusal convertOf
+    tpScale tpOffset vrefScale vrefOffset twoPointA topOf bOf bRefusal twoPointB coefficientsOf basisRefusal
+    usesLookup inRanges hasVrefLine fitsSource goodRecord recordRefusal lowAt highAt numeratorAt voltageAt lineVoltage blendOf beyondLine answerAt convertRefusal convertOf
     firstOf dumpRefusal bitsOf placeRefusal fieldBits countRefusal mapRecordRefusal mapRefusal toldOf decodingRefusal valueById
-    twoPointUsed sourceOf foundOf decodedRecord decodeRefusal decodeOf
+    twoPointUsed basisOf sourceOf foundOf decodedRecord decodeRefusal decodeOf
     flatten calibMap entryAt byVersion tagOf termOf within readingOf readingRefusal calibReadingOf
     versionOf versionRefusal codeRefusal offsetOf calCode calCodeOf compensOf chanCompensOf
     nearest doublings scaled magnitude coefficient tableOf horner errorOf correctedOf correctRefusal correctOf unitRefusal rawRefusal

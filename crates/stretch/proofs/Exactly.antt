@@ -6,8 +6,9 @@ use Rattle.terms.specs.Exactly.{Exactly}
 use Rattle.terms.proofs.Exactly.{Some, exactly, case}
 use Rattle.terms.proofs.Order.{either}
 use Rattle.line_record.specs.declared.record.LineRecord.{LineRecord}
-use Rattle.line_record.specs.When.{InRanges, RecordWhen, bad-record, good-record}
-use Rattle.line_record.proofs.Exactly.{record-exactly, ranges}
+use Rattle.line_record.specs.Record.{recordRefusal}
+use Rattle.line_record.specs.When.{RecordWhen, bad-record, good-record}
+use Rattle.line_record.proofs.Exactly.{record-exactly}
 use Rattle.stretch.specs.Fill.{fillRefusal}
 use Rattle.stretch.specs.When.{FillWhen, fill-record, bad-stretch, good-stretch}
 
@@ -26,8 +27,8 @@ module _ (r : LineRecord) (first n : ℕ) where
   pub fill-exactly : Exactly (fillRefusal r first n) (FillWhen r first n)
   fill-exactly = exactly fill-gives (fill-by _ (case (record-exactly r)))
 
-  fill-none : FillWhen r first n 0 → InRanges r × (first + n ≤ 4096)
-  fill-none (good-stretch w h) = (ranges r w, h)
+  fill-none : FillWhen r first n 0 → (recordRefusal r ≡ 0) × (first + n ≤ 4096)
+  fill-none (good-stretch w h) = (record-exactly r 0 .1 w, h)
 
-  pub fill-good : fillRefusal r first n ≡ 0 → InRanges r × (first + n ≤ 4096)
+  pub fill-good : fillRefusal r first n ≡ 0 → (recordRefusal r ≡ 0) × (first + n ≤ 4096)
   fill-good e = fill-none (fill-exactly 0 .0 e)

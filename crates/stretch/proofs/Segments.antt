@@ -4,7 +4,7 @@ use mathlib.Core.Bool.{true, false, true≢false}
 use Prim.Native.Nat.{ℕ, _+_, _*_, _-_, _/_, _%_, _≤_, _<_}
 use native.Mathlib.Nat.{mul-add}
 use native.Mathlib.Omega.{arith}
-use borrow.Author.Tests.{lt-ltb, le-ltb, le-leb}
+use borrow.Author.Tests.{lt-ltb, le-ltb}
 use Rattle.terms.specs.Table.{tab}
 use Rattle.terms.proofs.Order.{either, whether}
 use Rattle.terms.proofs.Tab.{tab-same}
@@ -17,8 +17,8 @@ use Rattle.stretch.specs.Fill.{answersFrom}
 use Rattle.stretch.specs.Private.{along, lineSlope, InStep, segmentLeft}
 use Rattle.lut.proofs.Sums.{voltage-is, sum-most, sum-along}
 use Rattle.line.proofs.Answers.{beyond-yes, beyond-plain, beyond-below, answer-line, answer-blend, answer-upper, line-sum-most}
-use Rattle.line_record.proofs.Records.{record-sound}
-use Rattle.line.proofs.Lookups.{has-from, slope-some}
+use Rattle.line_record.proofs.Records.{record-ranges, record-sound}
+use Rattle.line.proofs.Lookups.{has-count, slope-some}
 
 -- how far a segment goes
 module _ (r : LineRecord) (count : ℕ) where
@@ -59,7 +59,7 @@ module _ (r : LineRecord) (first n : ℕ) {s : Slope} (p : s ≡ lutSlope r firs
   lut-sum : (k : ℕ) → first % 64 + k ≤ 64 → along s k ≡ lookupSum r (first + k)
   lut-sum k near =
       let ranges = record-sound r (step .good) in
-      let has = has-from r first (step .good) (step .from) ∙ le-leb _ _ (step .upto) in
+      let has = has-count r first (record-ranges r (step .good)) (step .from) (step .upto) in
       rw (p ∙ sym (slope-some r first has))
       (sym (sum-along _ _ first (step .from) (step .upto) (ranges .vref-least) (ranges .vref-most) k near))
 

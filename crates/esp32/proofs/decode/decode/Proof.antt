@@ -9,8 +9,8 @@ use Rattle.maps.proofs.Told.{told-is-number}
 use Rattle.inputs.specs.Input.{decodingRefusal}
 use Rattle.inputs.proofs.Inputs.{decoding-good}
 use Rattle.esp32.specs.Decode.{foundOf, decodedRecord, decodeRefusal}
-use Rattle.esp32.proofs.Sources.{vref-fits, source-in-bits}
-use Rattle.esp32.proofs.Decoding.{decode-source, decode-passed-on, decode-nine, decode-refused, decode-record}
+use Rattle.esp32.proofs.Bases.{vref-fits, basis-in-bits}
+use Rattle.esp32.proofs.Decoding.{decode-basis, decode-passed-on, decode-nine, decode-refused, decode-record}
 use Rattle.esp32.proofs.decode.decode.Statement.{statement}
 use Rattle.esp32.proofs.decode.decode.Tie as tie
 
@@ -20,11 +20,11 @@ accepted : (c : tie.Else1)
     decodingRefusal eight Esp32 (now (a .dump)) (now (a .map)) (a .unit) (a .atten) ≡ 0
 accepted c = sym (told-is-number _ _ _ (c .before .before .decoding-refusal .ensures)) ∙ c .if1 .left
 
--- so that the source's number is the decoding's
-number : (c : tie.After-source-refusal)
+-- so that the basis's number is the decoding's
+number : (c : tie.After-basis-refusal)
     → let a = c .before .before .before .before .before .before .before .args in
-    c .source-refusal .result ≡ decodeRefusal eight (now (a .dump)) (now (a .map)) (a .unit) (a .atten)
-number c = decode-source _ _ _ _ _ (accepted (c .before .before)) (c .before .source .ensures) (c .source-refusal .ensures)
+    c .basis-refusal .result ≡ decodeRefusal eight (now (a .dump)) (now (a .map)) (a .unit) (a .atten)
+number c = decode-basis _ _ _ _ _ (accepted (c .before .before)) (c .before .basis .ensures) (c .basis-refusal .ensures)
 
 decoding-refusal-requires : tie.Need-decoding-refusal-requires
 decoding-refusal-requires c κs = search needs
@@ -35,13 +35,13 @@ returns c =
     (decode-passed-on _ _ _ _ _ (c .before .before .decoding-refusal .ensures) (c .if1 .taken))
     (c .if1 .taken)
 
-source-requires : tie.Need-source-requires
-source-requires c κs = decoding-good _ _ _ _ _ _ (accepted c) .0
+basis-requires : tie.Need-basis-requires
+basis-requires c κs = decoding-good _ _ _ _ _ _ (accepted c) .0
 
-source-refusal-requires : tie.Need-source-refusal-requires
-source-refusal-requires c κs =
+basis-refusal-requires : tie.Need-basis-refusal-requires
+basis-refusal-requires c κs =
     let good = decoding-good _ _ _ _ _ _ (accepted (c .before)) in
-    rw (c .source .ensures) (good .1 .0, good .1 .1, source-in-bits _ _ _ (good .0) _)
+    rw (c .basis .ensures) (good .1 .0, good .1 .1, basis-in-bits _ _ _ (good .0) _)
 
 plain-requires : tie.Need-plain-requires
 plain-requires c κs = search needs
@@ -50,11 +50,11 @@ returns-2 : tie.Need-returns-2
 returns-2 c =
     let n = c .before .before in
     decode-refused _ _ _ _ _
-    (decode-nine _ _ _ _ _ (accepted (n .before .before)) (n .before .source .ensures) (n .source-refusal .ensures) (c .plain .ensures))
+    (decode-nine _ _ _ _ _ (accepted (n .before .before)) (n .before .basis .ensures) (n .basis-refusal .ensures) (c .plain .ensures))
     (rw (c .plain .ensures) (c .before .if2 .taken))
 
 find-requires : tie.Need-find-requires
-find-requires c κs = (sym (number (c .before)) ∙ c .if2 .left, c .before .before .source .ensures)
+find-requires c κs = (sym (number (c .before)) ∙ c .if2 .left, c .before .before .basis .ensures)
 
 record-from-requires : tie.Need-record-from-requires
 unfolding foundOf
@@ -73,8 +73,8 @@ decode-spec =
     (tie.spec
     decoding-refusal-requires
     returns
-    source-requires
-    source-refusal-requires
+    basis-requires
+    basis-refusal-requires
     plain-requires
     returns-2
     find-requires

@@ -10,7 +10,7 @@ use Rattle.inputs.specs.Input.{fieldsRefusal}
 use Rattle.maps.specs.Value.{valueById}
 use Rattle.esp32.specs.Decode.{foundOf}
 use Rattle.esp32.proofs.Codes.{vref-range}
-use Rattle.esp32.proofs.Sources.{read, vref-fits, source-in-bits}
+use Rattle.esp32.proofs.Bases.{read, vref-fits, basis-in-bits}
 use Rattle.esp32.proofs.Decoding.{decode-good}
 use Rattle.esp32.proofs.decode.find.Statement.{statement}
 use Rattle.esp32.proofs.decode.find.Tie as tie
@@ -34,7 +34,7 @@ characterize-requires c κs =
     let pre = c .before .before .before .before .pre in
     let p = decode-good _ _ _ _ _ (pre .0) in
     rw (c .efuse-vref .ensures, vref (c .before), pre .1)
-    (p .1 .0, p .1 .1, vref-range (vref-fits _ _ _ (p .0)) .1, source-in-bits _ _ _ (p .0) _, p .2)
+    (p .1 .0, p .1 .1, vref-range (vref-fits _ _ _ (p .0)) .1, basis-in-bits _ _ _ (p .0) _, p .2)
 
 returns : tie.Need-returns
 unfolding foundOf

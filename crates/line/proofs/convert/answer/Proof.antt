@@ -3,7 +3,6 @@ use mathlib.Core.Path.{sym, _∙_}
 use borrow.Author.Needs.{needs}
 use Rattle.line.proofs.Answers.{answer-line}
 use Rattle.line.proofs.Exactly.{convert-good}
-use Rattle.line_record.proofs.Records.{record-good}
 use Rattle.line.proofs.convert.answer.Statement.{statement}
 use Rattle.line.proofs.convert.answer.Tie as tie
 
@@ -17,9 +16,7 @@ returns : tie.Need-returns
 returns c = c .upper-answer .ensures
 
 calculate-voltage-linear-requires : tie.Need-calculate-voltage-linear-requires
-calculate-voltage-linear-requires c κs =
-    let good = convert-good _ _ (c .before .before .pre) in
-    (record-good _ (good .0), good .1)
+calculate-voltage-linear-requires c κs = convert-good _ _ (c .before .before .pre)
 
 returns-2 : tie.Need-returns-2
 returns-2 c =

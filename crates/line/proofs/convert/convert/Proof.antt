@@ -2,6 +2,7 @@
 use mathlib.Core.Path.{sym, _∙_}
 use native.Mathlib.Omega.{arith}
 use borrow.Author.Needs.{needs}
+use Rattle.line_record.proofs.Records.{record-sound}
 use Rattle.line.proofs.Answers.{answer-most}
 use Rattle.line.proofs.Conversions.{convert-voltage, convert-refused}
 use Rattle.line.proofs.Exactly.{convert-good}
@@ -26,7 +27,7 @@ answer-requires c κs = sym (c .before .convert-refusal .ensures) ∙ c .if1 .le
 cast-mv : tie.Need-cast-mv
 cast-mv c =
     let good = convert-good _ _ (sym (c .before .before .convert-refusal .ensures) ∙ c .before .if1 .left) in
-    omega (arith, c .answer .ensures, answer-most _ (good .0) _ (good .1))
+    omega (arith, c .answer .ensures, answer-most _ (record-sound _ (good .0)) _ (good .1))
 
 returns-2 : tie.Need-returns-2
 returns-2 c = convert-voltage _ _ (sym (c .before .before .convert-refusal .ensures) ∙ c .before .if1 .left) (c .answer .ensures)

@@ -5,14 +5,14 @@ use native.Mathlib.Omega.{arith}
 use borrow.Author.Needs.{needs}
 use Rattle.line.proofs.Answers.{beyond-line, answer-blend, answer-lookup, blend-mean, line-most, lookup-most}
 use Rattle.line.proofs.Exactly.{convert-good}
-use Rattle.line_record.proofs.Records.{record-good}
+use Rattle.line_record.proofs.Records.{record-ranges, record-sound}
 use Rattle.line.proofs.convert.upper_answer.Statement.{statement}
 use Rattle.line.proofs.convert.upper_answer.Tie as tie
 
 calculate-voltage-lut-requires : tie.Need-calculate-voltage-lut-requires
 calculate-voltage-lut-requires c κs =
     let good = convert-good _ _ (c .pre .0) in
-    (record-good _ (good .0), beyond-line _ _ (c .pre .1) .1, good .1)
+    (record-ranges _ (good .0), beyond-line _ _ (c .pre .1) .1, good .1)
 
 returns : tie.Need-returns
 returns c =
@@ -20,9 +20,7 @@ returns c =
     c .before .calculate-voltage-lut .ensures ∙ sym (answer-lookup _ _ (past .0) (c .if1 .taken))
 
 calculate-voltage-linear-requires : tie.Need-calculate-voltage-linear-requires
-calculate-voltage-linear-requires c κs =
-    let good = convert-good _ _ (c .before .before .pre .0) in
-    (record-good _ (good .0), good .1)
+calculate-voltage-linear-requires c κs = convert-good _ _ (c .before .before .pre .0)
 
 cast-left : tie.Need-cast-left
 cast-left c = let past = beyond-line _ _ (c .before .before .before .pre .1) in omega arith
@@ -36,13 +34,13 @@ cast-gone c = search needs
 cast-interpolate-two-points : tie.Need-cast-interpolate-two-points
 cast-interpolate-two-points c =
     let good = convert-good _ _ (c .before .before .before .pre .0) in
-    omega (arith, c .calculate-voltage-linear .ensures, line-most _ (good .0) _ (good .1))
+    omega (arith, c .calculate-voltage-linear .ensures, line-most _ (record-sound _ (good .0)) _ (good .1))
 
 cast-interpolate-two-points-2 : tie.Need-cast-interpolate-two-points-2
 cast-interpolate-two-points-2 c =
     let p = c .before .before .before .pre in
     let good = convert-good _ _ (p .0) in
-    omega (arith, c .before .before .calculate-voltage-lut .ensures, lookup-most _ (good .0) _ (beyond-line _ _ (p .1) .1) (good .1))
+    omega (arith, c .before .before .calculate-voltage-lut .ensures, lookup-most _ (record-sound _ (good .0)) _ (beyond-line _ _ (p .1) .1) (good .1))
 
 interpolate-two-points-requires : tie.Need-interpolate-two-points-requires
 interpolate-two-points-requires c κs = search needs

@@ -3,7 +3,7 @@ use Prim.Native.Nat.{_+_, _-_, _/_}
 use native.Mathlib.Omega.{arith}
 use borrow.Author.Needs.{needs}
 use Rattle.lut.proofs.Points.{Made, point-made}
-use Rattle.line_record.proofs.Records.{record-sound}
+use Rattle.line_record.proofs.Records.{ranges-hold}
 use Rattle.line.proofs.lookup.point.Statement.{statement}
 use Rattle.line.proofs.lookup.point.Tie as tie
 
@@ -30,7 +30,7 @@ made : (c : tie.After-lut-row)
     → let a = c .before .args in
     Made (a .cal .unit) (a .cal .vref) ((a .raw - 2880) / 64 + a .next) (c .lut-row .result .0) (c .lut-row .result .1)
 made c =
-    let ranges = record-sound _ (c .before .pre .0) in
+    let ranges = ranges-hold _ (c .before .pre .0) in
     point-made _ _ _ (ranges .unit) (omega arith) (ranges .vref-most) (c .lut-row .ensures)
 
 sub-rise : tie.Need-sub-rise

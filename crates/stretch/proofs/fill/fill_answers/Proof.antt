@@ -9,7 +9,6 @@ use Rattle.terms.proofs.Parts.{fill-part}
 use Rattle.terms.proofs.Tab.{Filled, fill-start, fill-done}
 use Rattle.line.specs.Convert.{answerAt}
 use Rattle.stretch.proofs.Exactly.{fill-good}
-use Rattle.line_record.proofs.Records.{record-good}
 use Rattle.stretch.proofs.Segments.{segment-ends}
 use Rattle.stretch.proofs.fill.fill_answers.Statement.{statement}
 use Rattle.stretch.proofs.fill.fill_answers.Tie as tie
@@ -66,7 +65,7 @@ fill-segment-requires : tie.Need-fill-segment-requires Inv-loop μ-loop
 fill-segment-requires c κs =
     let p = c .before .before in
     let good = fill-good _ _ _ (p .before .before .before .before .pre) in
-    (record-good _ (good .0), inside (p .before), simp (length-take, length-drop) (omega (arith, p .segment-left .ensures)))
+    (good .0, inside (p .before), simp (length-take, length-drop) (omega (arith, p .segment-left .ensures)))
 
 loop-again : tie.Need-loop-again Inv-loop μ-loop
 loop-again c =

@@ -4,10 +4,9 @@ use native.Mathlib.Omega.{arith}
 use borrow.Author.Needs.{needs}
 use Rattle.terms.proofs.Refusals.{orElse-some}
 use Rattle.stretch.specs.Fill.{fillRefusal}
-use Rattle.line_record.specs.When.{good-record}
 use Rattle.stretch.specs.When.{bad-stretch, good-stretch}
 use Rattle.stretch.proofs.Exactly.{fill-exactly}
-use Rattle.line_record.proofs.Records.{record-sound}
+use Rattle.line_record.proofs.Exactly.{record-exactly}
 use Rattle.stretch.proofs.fill.fill_refusal.Statement.{statement}
 use Rattle.stretch.proofs.fill.fill_refusal.Tie as tie
 
@@ -20,8 +19,8 @@ returns c = rw (← c .before .record-refusal .ensures) (sym (orElse-some _ _ (c
 
 returns-2 : tie.Need-returns-2
 returns-2 c =
-    let ranges = record-sound _ (sym (c .before .before .record-refusal .ensures) ∙ c .before .if1 .left) in
-    sym (fill-exactly _ _ _ 11 .1 (bad-stretch (good-record ranges) (omega arith)))
+    let good = record-exactly _ 0 .0 (sym (c .before .before .record-refusal .ensures) ∙ c .before .if1 .left) in
+    sym (fill-exactly _ _ _ 11 .1 (bad-stretch good (omega arith)))
 
 cast-if3 : tie.Need-cast-if3
 cast-if3 c = search needs
@@ -29,14 +28,14 @@ cast-if3 c = search needs
 returns-3 : tie.Need-returns-3
 returns-3 c =
     let p = c .before .before in
-    let ranges = record-sound _ (sym (p .before .record-refusal .ensures) ∙ p .if1 .left) in
-    sym (fill-exactly _ _ _ 11 .1 (bad-stretch (good-record ranges) (omega arith)))
+    let good = record-exactly _ 0 .0 (sym (p .before .record-refusal .ensures) ∙ p .if1 .left) in
+    sym (fill-exactly _ _ _ 11 .1 (bad-stretch good (omega arith)))
 
 returns-4 : tie.Need-returns-4
 returns-4 c =
     let p = c .before .before in
-    let ranges = record-sound _ (sym (p .before .record-refusal .ensures) ∙ p .if1 .left) in
-    sym (fill-exactly _ _ _ 0 .1 (good-stretch (good-record ranges) (omega arith)))
+    let good = record-exactly _ 0 .0 (sym (p .before .record-refusal .ensures) ∙ p .if1 .left) in
+    sym (fill-exactly _ _ _ 0 .1 (good-stretch good (omega arith)))
 
 pub fill-refusal-spec : {M : Type 1} → statement M
 fill-refusal-spec =
