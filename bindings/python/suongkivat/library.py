@@ -76,21 +76,14 @@ def _declared(path: str) -> ctypes.CDLL:
             raise _another(path, f"has no {name}")
         call.restype = gives
         call.argtypes = takes
-    if not _known(calls):
+    # A library of another first version number can have the same names and other structs, whose values would be put to wrong places and
+    # taken from there, in silence. So one answer that is known is looked at, of a call that takes no pointer: by a record by two points
+    # at attenuation 2, which goes by its line. Version 2 had in the attenuation's place whether the lookup is used, and answers 3134;
+    # version 1 had a shorter refusal besides, and the millivolts before their place here.
+    known = calls.skv_convert(raw.SkvLineRecord(52798, 142, 1100, 0, 2, 0), raw.SkvCount(4095))
+    if (bytes(known.refusal), known.voltage.mv) != (bytes(3), 3441):
         raise _another(path, "has structs of another form")
     return calls
-
-
-def _known(calls: ctypes.CDLL) -> bool:
-    """Whether two answers are those that are known. A library of another first version number can have the same names and other structs,
-    whose values would be put to wrong places and taken from there, in silence. Neither call takes a pointer, so trying them is safe.
-    """
-    # the S2's reference voltage at attenuation 0: in version 1 a refusal was shorter
-    reference = calls.skv_s2_cal_mv(0, 0)
-    # By two points at attenuation 2, so by the line. Version 2 had in the attenuation's place whether the lookup is used, and answers
-    # 3134. With source and attenuation exchanged, or source 0 for Vref, it would be refused.
-    by_line = calls.skv_convert(raw.SkvLineRecord(52798, 142, 1100, 0, 2, 0), raw.SkvCount(4095))
-    return [(bytes(answer.refusal), answer.voltage.mv) for answer in (reference, by_line)] == [(bytes(3), 600), (bytes(3), 3441)]
 
 
 def _another(path: str, why: str) -> LibraryMissing:
