@@ -1,6 +1,6 @@
 //! Where the linker finds the library: in the folder that SUONGKIVAT_LIB_DIR names; else in target/lib of the project that this crate
-//! stands in, since that is the crate's own version; else where pkg-config has it. It is linked as an archive, or as a shared object
-//! where there is only that.
+//! stands in, since that is the crate's own version; else where pkg-config has one with the crate's first version number. It is linked
+//! as an archive, or as a shared object where there is only that.
 use std::path::{Path, PathBuf};
 use std::process::{exit, Command};
 use std::{env, str};
@@ -13,10 +13,18 @@ fn kind(folder: &Path) -> Option<&'static str> {
     kinds.into_iter().find(|(file, _)| folder.join(file).is_file()).map(|(_, kind)| kind)
 }
 
+/// What pkg-config writes of the installed library, where it knows of one.
+fn told(option: &str) -> Option<String> {
+    let told = Command::new("pkg-config").args([option, "suongkivat"]).output().ok()?;
+    let words = str::from_utf8(&told.stdout).ok()?.trim();
+    (told.status.success() && !words.is_empty()).then(|| words.to_string())
+}
+
+/// Where it is installed. One with another first version number has the same calls over other structs, and would be linked unnoticed.
 fn pkg_config() -> Option<PathBuf> {
-    let told = Command::new("pkg-config").args(["--variable=libdir", "suongkivat"]).output().ok()?;
-    let folder = str::from_utf8(&told.stdout).ok()?.trim();
-    (told.status.success() && !folder.is_empty()).then(|| PathBuf::from(folder))
+    let version = told("--modversion")?;
+    let same = version.split('.').next() == Some(env!("CARGO_PKG_VERSION_MAJOR"));
+    told("--variable=libdir").filter(|_| same).map(PathBuf::from)
 }
 
 fn link(folder: &Path, kind: &str) {
@@ -52,5 +60,6 @@ fn main() {
             return link(&folder, kind);
         }
     }
-    stop("libsuongkivat.a isn't in the project's target/lib, and pkg-config knows of none")
+    let major = env!("CARGO_PKG_VERSION_MAJOR");
+    stop(&format!("libsuongkivat.a isn't in the project's target/lib, and pkg-config knows of none of version {major}"))
 }

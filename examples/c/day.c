@@ -6,6 +6,10 @@
 
 enum { WORD = 4 };
 
+/* Sources and attenuations in words, by their numbers. */
+static const char *const sources[] = {[SKV_TWO_POINT] = "two points", [SKV_VREF] = "Vref"};
+static const char *const attenuations[] = {"0 dB", "2.5 dB", "6 dB", "11 dB"};
+
 typedef struct Dump {
     uint32_t words[SKV_DUMP_WORDS];
     size_t len;
@@ -59,7 +63,7 @@ static void print_undecoded(SkvRefusal refusal)
     printf("\n");
 }
 
-/* A board's record for a unit and an attenuation, and what it makes of a few counts. */
+/* A board's record for a unit and an attenuation, with where it comes from, and what it makes of a few counts. */
 static void print_record(char board, const Dump *dump, const uint8_t *map, size_t map_len, uint8_t unit, uint8_t atten)
 {
     const SkvCount counts[] = {{0}, {2880}, {2912}, {4095}, {4096}};
@@ -70,7 +74,8 @@ static void print_record(char board, const Dump *dump, const uint8_t *map, size_
         print_undecoded(decoded.refusal);
         return;
     }
-    printf("a %u, b %u, Vref %u, lookup %u\n", cal.coeff_a, cal.coeff_b, cal.vref, cal.use_lut);
+    printf("by %s at %s, ", sources[cal.source], attenuations[cal.attenuation]);
+    printf("a %u, b %u, Vref %u\n", cal.coeff_a, cal.coeff_b, cal.vref);
     for (size_t k = 0; k < sizeof counts / sizeof counts[0]; k++) {
         printf("count %u: ", counts[k].raw);
         print_answer(skv_convert(cal, counts[k]));

@@ -6,6 +6,9 @@ import pathlib
 
 import suongkivat
 
+SOURCES = {suongkivat.Source.TWO_POINT: "two points", suongkivat.Source.VREF: "Vref"}
+ATTENUATIONS = "0 dB", "2.5 dB", "6 dB", "11 dB"
+
 
 def load(name):
     """A file's bytes; a missing one counts as empty."""
@@ -21,14 +24,15 @@ def undecoded(refused):
 
 
 def print_record(name, board, unit, attenuation):
-    """A board's record for a unit and an attenuation, and what it makes of a few counts."""
+    """A board's record for a unit and an attenuation, with where it comes from, and what it makes of a few counts."""
     what = f"record {name}, unit {unit}, attenuation {attenuation}:"
     try:
         record = board.record(unit, attenuation)
     except suongkivat.Refused as refused:
         print(what, undecoded(refused))
         return
-    print(what, f"a {record.coeff_a}, b {record.coeff_b}, Vref {record.vref}, lookup {record.use_lut:d}")
+    comes_from = f"by {SOURCES[record.source]} at {ATTENUATIONS[record.attenuation]}"
+    print(what, f"{comes_from}, a {record.coeff_a}, b {record.coeff_b}, Vref {record.vref}")
     for count in 0, 2880, 2912, 4095, 4096:
         try:
             print(f"count {count}: {record.convert(count)}")

@@ -2,7 +2,7 @@
 //! a folder with field.bin, reference.bin, map.bin and samples.bin; examples/run builds it with the crate of bindings/rust.
 use std::fs;
 
-use suongkivat::{dump_from_bytes, Answer, Attenuation, Board, Count, Log, Millivolt, Refusal, Session, Unit};
+use suongkivat::{dump_from_bytes, Answer, Attenuation, Board, Count, LineRecord, Log, Millivolt, Refusal, Session, Unit};
 
 /// A file's bytes; a missing one counts as empty.
 fn load(name: &str) -> Vec<u8> {
@@ -30,14 +30,14 @@ fn told(answer: Answer<Millivolt>) -> String {
     answer.map_or_else(refused, |voltage| voltage.0.to_string())
 }
 
-/// A board's record for a unit and an attenuation, and what it makes of a few counts.
+/// A board's record for a unit and an attenuation, with where it comes from, and what it makes of a few counts.
 fn print_record(name: char, board: Board, unit: Unit, attenuation: Attenuation) {
     print!("record {name}, unit {}, attenuation {}: ", unit.0, attenuation.0);
     match board.record(unit, attenuation) {
         Err(refusal) => println!("{}", undecoded(refusal)),
         Ok(record) => {
-            let (a, b, vref, lookup) = (record.coeff_a, record.coeff_b, record.vref, u8::from(record.uses_lookup()));
-            println!("a {a}, b {b}, Vref {vref}, lookup {lookup}");
+            let LineRecord { coeff_a, coeff_b, vref, attenuation, source, .. } = record;
+            println!("by {source} at {attenuation}, a {coeff_a}, b {coeff_b}, Vref {vref}");
             for count in [0, 2880, 2912, 4095, 4096].map(Count) {
                 println!("count {count}: {}", told(record.convert(count)));
             }

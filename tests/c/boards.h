@@ -34,6 +34,9 @@ static const uint8_t esp32_counts[6] = {5, 1, 7, 7, 9, 9};
 static const uint8_t s2_counts[2] = {8, 8};
 static const uint8_t c6_counts[15] = {10, 10, 10, 10, 10, 10, 10, 10, 4, 4, 4, 4, 4, 4, 4};
 
+/* Where `esp32_map` has the fields, in block 3. */
+enum { VREF = 0, RESERVE = 5, LOW = 6, LOW2 = 13, HIGH = 20, HIGH2 = 29 };
+
 static inline void esp32_map(uint8_t *map) { make_map(map, 1, esp32_counts, 6, 3); }
 static inline void s2_map(uint8_t *map) { make_map(map, 7, s2_counts, 2, 4); }
 static inline void c6_map(uint8_t *map) { make_map(map, 9, c6_counts, 15, 5); }

@@ -23,7 +23,7 @@ static inline int plain(SkvRefusal refusal, int number) { return tells(refusal, 
 /* A line record of zeros, as it is beside a refusal. */
 static inline int is_zero(SkvLineRecord r)
 {
-    return r.coeff_a == 0 && r.coeff_b == 0 && r.vref == 0 && r.unit == 0 && r.use_lut == 0;
+    return r.coeff_a == 0 && r.coeff_b == 0 && r.vref == 0 && r.unit == 0 && r.attenuation == 0 && r.source == 0;
 }
 
 void sizes(void);
@@ -32,6 +32,7 @@ void edges(void);
 void maps(void);
 void records(void);
 void lines(void);
+void sources(void);
 void s2(void);
 void c6(void);
 void curves(void);

@@ -3,8 +3,6 @@
 #include "check.h"
 #include "suongkivat.h"
 
-enum { VREF = 0, RESERVE = 5, LOW = 6, LOW2 = 13, HIGH = 20, HIGH2 = 29 }; /* where `esp32_map` has the fields, in block 3 */
-
 static const SkvCount counts[5] = {{0}, {2880}, {2912}, {2944}, {4095}};
 static const uint16_t marked[5] = {142, 2462, 2483, 2502, 3134};
 
@@ -45,7 +43,7 @@ static void decoding(void)
     CHECK(with_vref(0x0F).record.vref == 1205);
     CHECK(with_vref(0x1F).record.vref == 995);
     r = with_vref(0).record;
-    CHECK(r.coeff_a == 52798 && r.coeff_b == 142 && r.unit == 0 && r.use_lut == 1);
+    CHECK(r.coeff_a == 52798 && r.coeff_b == 142 && r.unit == 0);
     r = with_codes(1, 1, 3).record;
     CHECK(r.coeff_a == 52567 && r.coeff_b == 138);
     for (uint8_t attenuation = 0; attenuation < 4; attenuation++)
@@ -55,8 +53,6 @@ static void decoding(void)
     CHECK(plain(with_codes(63, 0x1BC, 3).refusal, 0) && with_codes(63, 0x1BC, 3).record.coeff_b == 53);
     CHECK(no_record(with_codes(63, 0x101, 3), SKV_UNDERFLOW));
     esp32_map(map);
-    CHECK(skv_decode(dump, WORDS, map, ESP32_MAP, 1, 2).record.unit == 1);
-    CHECK(skv_decode(dump, WORDS, map, ESP32_MAP, 1, 2).record.use_lut == 0);
     CHECK(no_record(skv_decode(dump, 0, map, 0, 2, 4), SKV_DUMP));
     CHECK(no_record(skv_decode(dump, WORDS, map, 0, 2, 3), SKV_UNIT));
     CHECK(no_record(skv_decode(dump, WORDS, map, 0, 1, 3), SKV_MAP));
@@ -69,10 +65,6 @@ static void converting(void)
     for (int i = 0; i < 5; i++)
         IS(skv_convert(r, counts[i]), 0, voltage.mv, marked[i]);
     IS(skv_convert(r, above), SKV_RAW, voltage.mv, 0);
-    r.use_lut = 2; /* any byte but 0 is a yes */
-    IS(skv_convert(r, counts[4]), 0, voltage.mv, marked[4]);
-    r.use_lut = 0;
-    IS(skv_convert(r, counts[4]), 0, voltage.mv, 3441);
     CHECK(plain(skv_check_record(r).refusal, 0));
     r.coeff_a = 131072;
     CHECK(plain(skv_check_record(r).refusal, SKV_LINE_RECORD));

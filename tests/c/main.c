@@ -1,5 +1,6 @@
 /* Calls every function of suongkivat.h with good and with bad input, and holds the answers to document 01: its marked cases, its
-   refusals in their order, and zeros beside each; and to document 02: which record of a map is bad. Ends 'N checks, M failed'. */
+   refusals in their order, and zeros beside each; and to document 02: which record of a map is bad, and where a line record comes from.
+   Ends 'N checks, M failed'. */
 #include "check.h"
 #include <stdio.h>
 
@@ -22,6 +23,7 @@ int main(void)
     maps();
     records();
     lines();
+    sources();
     s2();
     c6();
     curves();

@@ -1,5 +1,5 @@
-/* The answers' sizes and places, which a caller's program is compiled with. Where one has to change, so has the header's first version
-   number. All but the decoded record fit the 16 bytes that cross in registers. */
+/* The sizes and places of a line record and of the answers, which a caller's program is compiled with. Where one has to change, so has the
+   header's first version number. A line record, and every answer but a decoded one, fits the 16 bytes that cross in registers. */
 #include "check.h"
 #include "suongkivat.h"
 
@@ -25,6 +25,13 @@ void sizes(void)
     AT(SkvView, board, 3);
     AT(SkvView, first, 4);
     AT(SkvView, words, 8);
+    SIZE(SkvLineRecord, 16);
+    AT(SkvLineRecord, coeff_a, 0);
+    AT(SkvLineRecord, coeff_b, 4);
+    AT(SkvLineRecord, vref, 8);
+    AT(SkvLineRecord, unit, 12);
+    AT(SkvLineRecord, attenuation, 13);
+    AT(SkvLineRecord, source, 14);
     SIZE(SkvDecoded, 20);
     AT(SkvDecoded, record, 4);
     SIZE(SkvVersion, 4);

@@ -19,7 +19,7 @@ from .logs import Sample, next_sample, samples
 from .raw import C6_MAP_BYTES, COUNTS, DUMP_WORDS, ESP32_MAP_BYTES, S2_MAP_BYTES, SAMPLE_BYTES
 from .raw import VERSION as __version__
 from .refusals import WORDS, Refused
-from .units import Chip, Count, Millivolt
+from .units import Chip, Count, Millivolt, Source
 
 __all__ = [
     "Answer",
@@ -39,6 +39,7 @@ __all__ = [
     "SAMPLE_BYTES",
     "Sample",
     "Session",
+    "Source",
     "WORDS",
     "__version__",
     "c6",

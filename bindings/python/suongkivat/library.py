@@ -76,11 +76,13 @@ def _declared(path: str) -> ctypes.CDLL:
             raise _another(path, f"has no {name}")
         call.restype = gives
         call.argtypes = takes
-    # A library of another first version number can have the same names and other structs, whose values would be taken from wrong
-    # places, in silence. So one answer that is known is looked at: the S2's reference voltage at attenuation 0.
-    known = calls.skv_s2_cal_mv(0, 0)
-    if (bytes(known.refusal), known.voltage.mv) != (bytes(3), 600):
-        raise _another(path, "has answers of another form")
+    # A library of another first version number can have the same names and other structs, whose values would be put to wrong places and
+    # taken from there, in silence. So one answer that is known is looked at, of a call that takes no pointer: by a record by two points
+    # at attenuation 2, which goes by its line. Version 2 had in the attenuation's place whether the lookup is used, and answers 3134;
+    # version 1 had a shorter refusal besides, and the millivolts before their place here.
+    known = calls.skv_convert(raw.SkvLineRecord(52798, 142, 1100, 0, 2, 0), raw.SkvCount(4095))
+    if (bytes(known.refusal), known.voltage.mv) != (bytes(3), 3441):
+        raise _another(path, "has structs of another form")
     return calls
 
 

@@ -2,33 +2,44 @@
 from __future__ import annotations
 
 import dataclasses
-from typing import TYPE_CHECKING, Any, Iterable, SupportsIndex, Union
+from typing import TYPE_CHECKING, Any, Iterable, SupportsIndex, Tuple, Type, Union
 
 from . import raw
 from .arrays import Numbers, looked_up, written, written_lent
 from .lent import Bytes, DumpSource, bytes_lent, dump_lent
 from .library import ask
-from .units import Millivolt, count, held
+from .units import Millivolt, Source, count, held
 
 if TYPE_CHECKING:
     from numpy.typing import NDArray
 
+# The attenuation at which the lookup is used.
+LOOKUP = 3
+
 
 @dataclasses.dataclass(frozen=True)
 class LineRecord:
-    """What counts are converted by: a up to 131071, b up to 4095, vref 995 to 1205, unit 0 or 1, and whether the lookup is used. `decode`
-    makes one of a dump; one made by hand is refused where it is used (10), if it is outside these ranges.
+    """What counts are converted by, and where it came from: a up to 131071, b up to 4095, vref 995 to 1205, unit 0 or 1, attenuation 0 to
+    3, and the source, of Source. By Vref a and b are exactly those that vref gives for the unit and the attenuation. `decode` makes one
+    of a dump; one made by hand is refused where it is used (10), if it isn't such a record.
     """
 
     coeff_a: int
     coeff_b: int
     vref: int
     unit: int
-    use_lut: bool
+    attenuation: int
+    source: int
 
     def __post_init__(self) -> None:
         wide = (held(name, getattr(self, name), 32) for name in ("coeff_a", "coeff_b", "vref"))
-        object.__setattr__(self, "_raw", raw.SkvLineRecord(*wide, held("unit", self.unit, 8), 1 if self.use_lut else 0))
+        narrow = (held(name, getattr(self, name), 8) for name in ("unit", "attenuation", "source"))
+        object.__setattr__(self, "_raw", raw.SkvLineRecord(*wide, *narrow))
+
+    @property
+    def uses_lookup(self) -> bool:
+        """Whether the lookup is used: at 11 dB, whatever the source."""
+        return self.attenuation == LOOKUP
 
     @property
     def as_c(self) -> raw.SkvLineRecord:
@@ -60,9 +71,19 @@ class LineRecord:
         """The millivolts of many counts, in their order. Refusals 10; 8, of which `at` is the first place."""
         return looked_up(self.table(), counts)
 
+    def __reduce__(self) -> Tuple[Type[LineRecord], Tuple[int, ...]]:
+        """It is pickled and copied by its six parts."""
+        return type(self), tuple(getattr(self, part.name) for part in dataclasses.fields(self))
+
+    def __setstate__(self, state: Any) -> None:
+        """What only a record has that was pickled before version 3.0: the bytes that C had of it, where now an attenuation and a source
+        would be read.
+        """
+        raise ValueError("this record was stored before version 3.0, without its attenuation and its source: decode its board again")
+
 
 def decode(dump: DumpSource, field_map: Bytes, unit: SupportsIndex, attenuation: SupportsIndex) -> LineRecord:
     """The line record of a dump's unit at an attenuation. Refusals 1, 7, the map's, 9."""
     lent = (*dump_lent(dump), *bytes_lent(field_map))
     found = ask("skv_decode", *lent, held("a unit", unit, 8), held("an attenuation", attenuation, 8)).record
-    return LineRecord(found.coeff_a, found.coeff_b, found.vref, found.unit, bool(found.use_lut))
+    return LineRecord(found.coeff_a, found.coeff_b, found.vref, found.unit, found.attenuation, Source(found.source))

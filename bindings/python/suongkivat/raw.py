@@ -6,7 +6,7 @@ from __future__ import annotations
 import ctypes
 from ctypes import POINTER, c_char_p, c_int32, c_size_t, c_uint8, c_uint16, c_uint32
 
-VERSION = "2.0"
+VERSION = "3.0"
 DUMP_WORDS = 88
 ESP32_MAP_BYTES = 48
 S2_MAP_BYTES = 16
@@ -56,7 +56,14 @@ class SkvView(ctypes.Structure):
 
 
 class SkvLineRecord(ctypes.Structure):
-    _fields_ = [("coeff_a", c_uint32), ("coeff_b", c_uint32), ("vref", c_uint32), ("unit", c_uint8), ("use_lut", c_uint8)]
+    _fields_ = [
+        ("coeff_a", c_uint32),
+        ("coeff_b", c_uint32),
+        ("vref", c_uint32),
+        ("unit", c_uint8),
+        ("attenuation", c_uint8),
+        ("source", c_uint8),
+    ]
 
 
 class SkvDecoded(ctypes.Structure):

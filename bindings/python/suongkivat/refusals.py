@@ -27,7 +27,10 @@ WORDS = {
         "see that the map is this board's; if it is, take no voltages from this unit at this attenuation. docs/DIFFERENCES.md says what "
         "firmware may make of it",
     ),
-    10: ("line record outside its ranges", "decode it again; a stored record was damaged"),
+    10: (
+        "line record outside its ranges, or by Vref with another a or b than its Vref's",
+        "decode it again; a stored record was damaged, or is from before version 3.0",
+    ),
     11: ("a stretch whose first count plus length is above 4096", "lend a shorter list"),
     12: (
         "no code in that version: S2 version not 2, or C6 version not 1 or 2",

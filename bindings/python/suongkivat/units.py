@@ -1,4 +1,6 @@
-"""Counts and millivolts, two kinds of whole number of which neither is taken for the other; chips; and numbers on their way to C."""
+"""Counts and millivolts, two kinds of whole number of which neither is taken for the other; chips; where a line record comes from;
+and numbers on their way to C.
+"""
 from __future__ import annotations
 
 import enum
@@ -26,6 +28,13 @@ class Chip(enum.IntEnum):
     H2 = 6
     P4 = 7
     S3 = 8
+
+
+class Source(enum.IntEnum):
+    """Where a line record's a and b come from: the board's two calibration points, or the reference voltage alone."""
+
+    TWO_POINT = 0
+    VREF = 1
 
 
 def held(what: str, number: SupportsIndex, bits: int) -> int:

@@ -102,6 +102,13 @@ class Header(unittest.TestCase):
     def test_chips(self):
         self.assertEqual({chip.name: chip.value for chip in units.Chip}, enum("SKV_ESP32"))
 
+    def test_sources(self):
+        self.assertEqual({source.name: source.value for source in units.Source}, enum("SKV_TWO_POINT"))
+
+    def test_no_other_enum(self):
+        """Those of lengths, refusals, chips and sources, which the tests here hold."""
+        self.assertEqual(re.findall(r"\benum \{\s*(\w+)", CODE), ["SKV_DUMP_WORDS", "SKV_NONE", "SKV_ESP32", "SKV_TWO_POINT"])
+
     def test_words_are_the_header_s(self):
         words = {int(number): said for number, said in re.findall(r"SKV_\w+ = (\d+),? +/\* (.*?) \*/", HEADER.split("enum {")[2])}
         self.assertEqual(words.pop(0), "it wasn't")

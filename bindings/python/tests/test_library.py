@@ -92,24 +92,50 @@ class Library(unittest.TestCase):
         self.assertIn(f"{path} can't be loaded", told)
 
     def told_of(self, source):
-        """What is told of a library of that source."""
+        """What is told of a library of that source: the status, and the words, on one output or the other."""
         if not shutil.which("gcc"):
             self.skipTest("there is no gcc (Debian: gcc)")
         path = self.room / "site/suongkivat/libsuongkivat.so"
         subprocess.run(["gcc", "-shared", "-fPIC", "-x", "c", "-o", str(path), "-"], input=source.encode(), check=True)
         status, written, told = self.told()
-        self.assertEqual((status, written), (1, ""))
-        return told.replace(str(path), "IT")
+        return status, (written + told).replace(str(path), "IT")
+
+    def told_of_forms(self, refusal, record, lookup):
+        """The same of a library with every call, whose structs have those bytes; it converts the last count of one record alone."""
+        others = "".join(f"void {name}(void) {{}}\n" for name in raw.CALLS if name != "skv_convert")
+        return self.told_of(
+            f"""{others}
+            struct answer {{ unsigned char {refusal}; unsigned short mv; }};
+            struct record {{ unsigned coeff_a, coeff_b, vref; unsigned char {record}; }};
+            struct count {{ unsigned short raw; }};
+            struct answer skv_convert(struct record r, struct count c)
+            {{
+                struct answer a = {{0}};
+                a.mv = c.raw != 4095 ? 0 : {lookup} ? 3134 : 3441;
+                return a;
+            }}"""
+        )
+
+    def is_another(self, told):
+        why = f"IT has structs of another form, so it isn't the library of this package's version, {raw.VERSION}"
+        self.assertEqual((told[0], told[1].splitlines()[0]), (1, f"suongkivat: {why}"))
 
     def test_another_library(self):
-        self.assertIn("IT has no skv_", self.told_of("int nothing;"))
+        status, told = self.told_of("int nothing;")
+        self.assertEqual(status, 1)
+        self.assertIn("IT has no skv_", told)
 
-    def test_a_library_of_another_version(self):
-        # Version 1 had the same names. A refusal was its number alone, so that the millivolts began at byte 2.
-        answer = "struct answer { unsigned char number; unsigned short mv; };"
-        calls = (f"struct answer {name}(void) {{ struct answer a = {{0, 600}}; return a; }}" for name in raw.CALLS)
-        told = self.told_of("\n".join((answer, *calls)))
-        self.assertIn(f"IT has answers of another form, so it isn't the library of this package's version, {raw.VERSION}", told)
+    def test_a_library_of_these_forms(self):
+        told = self.told_of_forms("number, record, place", "unit, attenuation, source", "r.attenuation == 3")
+        self.assertEqual((told[0], told[1].splitlines()[1]), (0, "library: IT"))
+
+    def test_a_library_of_version_1(self):
+        """It had the same names. A refusal was its number alone, so that the millivolts began at byte 2: that is enough."""
+        self.is_another(self.told_of_forms("number", "unit, attenuation, source", "r.attenuation == 3"))
+
+    def test_a_library_of_version_2(self):
+        """It had the same names and the same answers. A record had at byte 13 whether the lookup is used, and nothing behind it."""
+        self.is_another(self.told_of_forms("number, record, place", "unit, use_lut", "r.use_lut"))
 
     def test_words(self):
         self.assertEqual(self.told("--help")[0], 0)

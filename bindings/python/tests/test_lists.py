@@ -40,8 +40,8 @@ def listed(number, record, place, value):
 
 
 def record_of(case):
-    a, b, vref, unit, lookup = struct.unpack_from("<IIIBB", case)
-    return LineRecord(a, b, vref, unit, lookup == 1)
+    """The record that a case begins with, as C has it."""
+    return LineRecord(*struct.unpack_from("<IIIBBB", case))
 
 
 class Lists(unittest.TestCase):
@@ -86,8 +86,8 @@ class Lists(unittest.TestCase):
 
     def test_decode(self):
         def same(words, case):
-            length, lent, unit, attenuation, number, lookup, vref, a, b, record, place = struct.unpack_from("<BBBBBBHIIBB", case, 48)
-            line = LineRecord(a, b, vref, unit, bool(lookup))
+            length, lent, unit, attenuation, number, source, vref, a, b, record, place = struct.unpack_from("<BBBBBBHIIBB", case, 48)
+            line = LineRecord(a, b, vref, unit, attenuation, source)
             got = told(suongkivat.decode, words[:lent], case[:length], unit, attenuation)
             board = suongkivat.Board(words[:lent], case[:length])
             self.assertEqual(told(board.record, unit, attenuation), got)
@@ -97,13 +97,13 @@ class Lists(unittest.TestCase):
 
     def test_convert(self):
         def same(_, case):
-            raw, number, millivolts = struct.unpack_from("<HBxH", case, 14)
+            raw, number, millivolts = struct.unpack_from("<HBxH", case, 16)
             record = record_of(case)
             self.assertEqual(number_of(record.check), 10 if number == 10 else 0)
             many = answered(lambda: [int(mv) for mv in record.millivolts([raw])][0])
             return [answered(record.convert, raw), many], [(number, millivolts)] * 2
 
-        self.replay("line_cases", "convert", 20, same)
+        self.replay("line_cases", "convert", 24, same)
 
     def test_fill(self):
         cuts = (1, 0, 4096), (2, 2048, 2048), (64, 64, 64), (4096, 1, 1), (111, 37, 37), (64, 4032, 100), (4096, 2891, 3)
@@ -126,7 +126,7 @@ class Lists(unittest.TestCase):
 
     def test_stretches(self):
         def same(_, case):
-            first, n, number, total = struct.unpack_from("<HHBxI", case, 14)
+            first, n, number, total = struct.unpack_from("<HHB3xI", case, 16)
             record = record_of(case)
             room = array("H", [BEFORE]) * 4104
             got = number_of(record.fill, first, memoryview(room)[:n])
@@ -136,7 +136,7 @@ class Lists(unittest.TestCase):
             table = answered(lambda: sum(int(mv) for mv in record.table(first, n)))
             return [(got, written), table], [(number, total)] * 2
 
-        self.replay("line_cases", "stretches", 24, same)
+        self.replay("line_cases", "stretches", 28, same)
 
     def test_s2(self):
         readings = s2.reading_vlow, s2.reading_vhigh, s2.reading_vinit

@@ -1,15 +1,16 @@
 """Numbers on their way in and out: what C has no room for, units, many counts at once with and without numpy, dumps in their forms."""
+import dataclasses
 import tempfile
 import unittest
 from array import array
 from unittest import mock
 
 import suongkivat
-from suongkivat import Board, Chip, Count, Dump, LineRecord, Millivolt, arrays, c6, s2
+from suongkivat import Board, Chip, Count, Dump, LineRecord, Millivolt, Source, arrays, c6, s2
 
 from .project import DAY, answered, number_of
 
-RECORD = LineRecord(52798, 142, 1100, 0, True)
+RECORD = LineRecord(52798, 142, 1100, 0, 3, Source.TWO_POINT)
 MAP = (DAY / "map.bin").read_bytes()
 FIELD = (DAY / "field.bin").read_bytes()
 HUGE = 1 << 70
@@ -34,11 +35,10 @@ class TooLarge(unittest.TestCase):
             self.assertEqual(number_of(suongkivat.read_field_u8, FIELD, 0, large, 0), 5)
             self.assertEqual(number_of(suongkivat.read_field_u8, FIELD, 0, 0, large), 5)
             self.assertEqual(number_of(suongkivat.correct, Chip.C3, 0, 0, large), 13)
-        for part in range(3):
-            parts = [52798, 142, 1100]
-            parts[part] += 1 << 32
-            self.assertEqual(number_of(LineRecord(*parts, 0, True).check), 10)
-        self.assertEqual(number_of(LineRecord(52798, 142, 1100, 256, True).check), 10)
+        for part, bits in zip(("coeff_a", "coeff_b", "vref", "unit", "attenuation", "source"), (32, 32, 32, 8, 8, 8)):
+            for large in 1 << bits, HUGE:
+                bad = dataclasses.replace(RECORD, **{part: getattr(RECORD, part) + large})
+                self.assertEqual(number_of(bad.check), 10, bad)
 
     def test_below_zero(self):
         session = suongkivat.Session(FIELD, FIELD, MAP)
@@ -49,7 +49,9 @@ class TooLarge(unittest.TestCase):
             lambda: RECORD.millivolts([0, -1]),
             lambda: RECORD.table(0, -1),
             lambda: suongkivat.read_field_le(FIELD, 0, 0, 8, -1),
-            lambda: LineRecord(-1, 0, 1100, 0, True),
+            lambda: LineRecord(-1, 0, 1100, 0, 3, 0),
+            lambda: LineRecord(0, 0, 1100, 0, -1, 0),
+            lambda: LineRecord(0, 0, 1100, 0, 3, -1),
             lambda: Dump([-1]),
             lambda: Dump([1 << 32]),
             lambda: session.view(-1, 0),
@@ -129,7 +131,7 @@ class Many(unittest.TestCase):
     def test_a_board(self):
         board = Board(FIELD, MAP)
         records = list(board.records())
-        self.assertEqual([(record.unit, record.use_lut) for record in records], [(k // 4, k % 4 == 3) for k in range(8)])
+        self.assertEqual([(record.unit, record.attenuation) for record in records], [(k // 4, k % 4) for k in range(8)])
         self.assertEqual(board.record(1, 2), records[6])
         self.assertEqual(list(board.table(0, 3)), [board.convert(0, 3, count) for count in range(4096)])
         self.assertEqual(list(board.millivolts(0, 3, [2880, 2944])), [2497, 2487])

@@ -6,7 +6,7 @@ import unittest
 from unittest import mock
 
 import suongkivat
-from suongkivat import Board, Chip, LineRecord, Refused, Sample, Session, c6, raw, s2
+from suongkivat import Board, Chip, LineRecord, Refused, Sample, Session, Source, c6, raw, s2
 from suongkivat.library import loaded
 
 from .project import CRATES, DAY, field_map, number_of, told
@@ -15,7 +15,7 @@ MAP = (DAY / "map.bin").read_bytes()
 ZEROS = bytes(352)
 S2_MAP = field_map((7, 1, 0, 3), (8, 0, 0, 3))
 C6_MAP = (CRATES / "esp32c6_cases/data/map").read_bytes()
-RECORD = LineRecord(52798, 142, 1100, 0, True)
+RECORD = LineRecord(52798, 142, 1100, 0, 3, Source.VREF)
 
 
 def changed(whole, *changes):
@@ -45,7 +45,7 @@ GIVEN = {
     7: (suongkivat.decode, ZEROS, MAP, 0, 4),
     8: (RECORD.convert, 4096),
     9: (suongkivat.decode, two_points(0x1BC), MAP, 0, 0),
-    10: (LineRecord(131072, 142, 1100, 0, True).convert, 4096),
+    10: (LineRecord(52798, 143, 1100, 0, 3, Source.VREF).convert, 4096),
     11: (RECORD.table, 1, 4096),
     12: (s2.init_code, ZEROS, S2_MAP, 0, 0),
     13: (suongkivat.correct, Chip.C3, 0, 3, 4096),
@@ -132,7 +132,7 @@ class Refusals(unittest.TestCase):
     def test_the_order(self):
         self.assertEqual(number_of(suongkivat.decode, b"", b"", 2, 0), 1)
         self.assertEqual(number_of(suongkivat.decode, ZEROS, b"", 2, 0), 7)
-        self.assertEqual(number_of(LineRecord(0, 4096, 1100, 0, False).table, 1, 4096), 10)
+        self.assertEqual(number_of(LineRecord(0, 4096, 1100, 0, 0, Source.TWO_POINT).table, 1, 4096), 10)
         self.assertEqual(number_of(suongkivat.correct, Chip.S2, 2, 0, 4096), 7)
         self.assertEqual(number_of(suongkivat.correct, Chip.S2, 0, 0, 4096), 14)
         self.assertEqual(number_of(c6.init_code, ZEROS, C6_MAP, 0, 0, 0), 12)

@@ -1,4 +1,5 @@
 // data/decode: dumps with their maps, and the line records that are decoded of them.
+use crate::handed::source_number;
 use esp32::decode;
 use line_record::decoded::Decoded;
 use line_record::decoded::refusal_of;
@@ -8,10 +9,12 @@ use replay::bytes;
 use terms::refusal;
 use terms::refusal::Refusal;
 
-// Whether a record is the case's. It is of the unit that was asked for.
+// Whether a record is the case's. It is of the unit and the attenuation that were asked for.
 fn same_record(got: LineRecord, case: &[u8]) -> bool {
+    let source = got.source;
     got.unit == bytes::number8(case, 50)
-        && got.use_lut as u8 == bytes::number8(case, 53)
+        && got.atten == bytes::number8(case, 51)
+        && source_number(source) == bytes::number8(case, 53)
         && got.vref == bytes::number16(case, 54) as u32
         && got.coeff_a == bytes::number32(case, 56)
         && got.coeff_b == bytes::number32(case, 60)

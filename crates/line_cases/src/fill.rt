@@ -1,6 +1,9 @@
 // data/fill: whole tables. data/stretches: stretches of them, with the sum of what is written.
-use crate::convert::record_of;
-use line_record::record::LineRecord;
+use crate::handed;
+use crate::handed::Handed;
+use crate::handed::outcome_from;
+use capi::answer::SkvCount;
+use capi_line::fill::skv_fill;
 use replay::answer;
 use replay::bytes;
 use stretch::fill;
@@ -13,17 +16,24 @@ const COUNTS: usize = 4096;
 // What lent numbers hold before a call: no answer is so large.
 const BEFORE: u16 = 65535;
 
+fn fill_by(handed: Handed, first: u16, out: &mut [u16]) -> Outcome {
+    match handed {
+        Handed::ToC(cal) => outcome_from(skv_fill(cal, SkvCount { raw: first }, out)),
+        Handed::ToLibrary(record) => fill::fill(record, Count(first), out),
+    }
+}
+
 // Fills the n counts from a first one on, or those that there is room for, lent as the part of a room that starts at a place.
-fn fill_part(record: LineRecord, first: u16, n: usize, room: &mut [u16], at: u16) -> Outcome {
+fn fill_part(handed: Handed, first: u16, n: usize, room: &mut [u16], at: u16) -> Outcome {
     let start = bytes::at_most(at as usize, room.len());
     let end = start + bytes::at_most(n, room.len() - start);
-    fill::fill(record, Count(first), &mut room[start..end])
+    fill_by(handed, first, &mut room[start..end])
 }
 
 // Fills a table by stretches of n counts, each lent as the table's own part. A stretch begins a stride after the one before it, around
 // the table's end.
 fn fill_cut(
-    record: LineRecord,
+    handed: Handed,
     stretches: u16,
     stride: u16,
     n: usize,
@@ -31,7 +41,7 @@ fn fill_cut(
 ) -> bool {
     let mut first = 0;
     for _ in 0..stretches {
-        let filled = fill_part(record, first, n, table, first);
+        let filled = fill_part(handed, first, n, table, first);
         if !answer::same_outcome(filled, refusal::plain(refusal::NONE)) {
             return false;
         }
@@ -50,21 +60,25 @@ fn same_table(table: &[u16; COUNTS], case: &[u8]) -> bool {
 }
 
 // Whether a table that is so cut holds the case's answers.
-fn same_cut(case: &[u8], stretches: u16, stride: u16, n: usize) -> bool {
+fn same_cut(handed: Handed, case: &[u8], stretches: u16, stride: u16, n: usize) -> bool {
     let mut table = [BEFORE; COUNTS];
-    fill_cut(record_of(case), stretches, stride, n, &mut table) && same_table(&table, case)
+    fill_cut(handed, stretches, stride, n, &mut table) && same_table(&table, case)
 }
 
 // Whether a table holds the case's answers however it is cut: as one stretch, in halves, by 64 as the lookup's points stand, one by
-// one, by a length that meets no point and is cut short at the end, falling and overlapping, scattered and each count three times.
+// one, by a length that meets no point and is cut short at the end, falling and overlapping, scattered and each count three times. For C
+// it is cut in two of these ways.
 pub(crate) fn same_fill(case: &[u8]) -> bool {
-    same_cut(case, 1, 0, 4096)
-        && same_cut(case, 2, 2048, 2048)
-        && same_cut(case, 64, 64, 64)
-        && same_cut(case, 4096, 1, 1)
-        && same_cut(case, 111, 37, 37)
-        && same_cut(case, 64, 4032, 100)
-        && same_cut(case, 4096, 2891, 3)
+    let record = handed::to_library(case);
+    same_cut(handed::to_c(case), case, 1, 0, 4096)
+        && same_cut(handed::to_c(case), case, 111, 37, 37)
+        && same_cut(record, case, 1, 0, 4096)
+        && same_cut(record, case, 2, 2048, 2048)
+        && same_cut(record, case, 64, 64, 64)
+        && same_cut(record, case, 4096, 1, 1)
+        && same_cut(record, case, 111, 37, 37)
+        && same_cut(record, case, 64, 4032, 100)
+        && same_cut(record, case, 4096, 2891, 3)
 }
 
 fn sum_of(numbers: &[u16]) -> u32 {
@@ -94,11 +108,16 @@ fn same_room(room: &[u16], n: usize, number: u8, sum: u32) -> bool {
 }
 
 // Whether a stretch is filled as the case says.
-pub(crate) fn same_stretch(case: &[u8]) -> bool {
-    let n = bytes::number16(case, 16) as usize;
-    let number = bytes::number8(case, 18);
+fn same_by(handed: Handed, case: &[u8]) -> bool {
+    let n = bytes::number16(case, 18) as usize;
+    let number = bytes::number8(case, 20);
     let mut room = [BEFORE; 4104];
-    let got = fill_part(record_of(case), bytes::number16(case, 14), n, &mut room, 0);
+    let got = fill_part(handed, bytes::number16(case, 16), n, &mut room, 0);
     answer::same_outcome(got, refusal::plain(number))
-        && same_room(&room, n, number, bytes::number32(case, 20))
+        && same_room(&room, n, number, bytes::number32(case, 24))
+}
+
+// The same whoever the record is handed to.
+pub(crate) fn same_stretch(case: &[u8]) -> bool {
+    same_by(handed::to_c(case), case) && same_by(handed::to_library(case), case)
 }

@@ -2,6 +2,7 @@
 mod convert;
 mod decode;
 mod fill;
+mod handed;
 
 use replay::Layout;
 
@@ -19,7 +20,7 @@ fn layout_of(list: List) -> Layout {
             per_dump: 32,
         },
         List::Convert => Layout {
-            case: 20,
+            case: 24,
             per_dump: 0,
         },
         List::Fill => Layout {
@@ -27,7 +28,7 @@ fn layout_of(list: List) -> Layout {
             per_dump: 0,
         },
         List::Stretches => Layout {
-            case: 24,
+            case: 28,
             per_dump: 0,
         },
     }

@@ -1,6 +1,6 @@
 //! One comparison from a call's name and its input: what an input is made smaller with.
 use oracle::fields::Field;
-use suongkivat::{Count, LineRecord, Sample, Unit};
+use suongkivat::{Attenuation, Count, LineRecord, Sample, Source, Unit};
 
 use crate::input::Input;
 use crate::library::Library;
@@ -19,7 +19,9 @@ impl Input {
 
     fn record(&self) -> LineRecord {
         let (coeff_a, coeff_b, vref) = (self.value("a"), self.value("b"), self.value("vref"));
-        LineRecord { coeff_a, coeff_b, vref, unit: Unit(self.value("unit")), use_lut: self.value("lookup") }
+        let (unit, attenuation) = self.unit_and_atten();
+        let source = Source(self.value("source"));
+        LineRecord { coeff_a, coeff_b, vref, unit: Unit(unit), attenuation: Attenuation(attenuation), source }
     }
 
     fn sample(&self) -> Sample {

@@ -11,11 +11,13 @@ use crate::library::Library;
 use crate::records::our_record;
 use crate::strewn::{Strewn, good_units_and_attens, strewn, units_and_attens};
 use crate::tally::{Compared, Tally, told};
+use crate::told::Decoded;
 
 pub fn decode(library: &Library, tally: &mut Tally, dump: &[u32], map: &[u8], (unit, atten): (u8, u8)) -> Compared {
     let input = || Input::default().number("unit", unit).number("attenuation", atten).dump(dump).map(map);
     let ours = (library.decode)(dump, map, unit, atten);
-    tally.same("decode", input, ours, || told(answers::decode(dump, map, unit, atten).map(our_record)))
+    let wanted = || answers::decode(dump, map, unit, atten).map(|record| Decoded::from(our_record(record)));
+    tally.same("decode", input, ours, || told(wanted()))
 }
 
 /// Codes, each in a word of its own.

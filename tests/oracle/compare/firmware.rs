@@ -26,9 +26,10 @@ pub fn firmware(library: &Library, tally: &mut Tally, noise: &mut Noise) -> Comp
             decode(library, tally, &dump, &map, (unit, atten))?;
             let decoded = (library.decode)(&dump, &map, unit, atten);
             if decoded.refused == Refused::NOT {
-                let table = line::table_plain(crates(decoded.value)).expect("a plain build doesn't panic");
+                let record = decoded.value.in_rust;
+                let table = line::table_plain(crates(record)).expect("a plain build doesn't panic");
                 let table: Vec<Millivolt> = table.into_iter().map(Millivolt).collect();
-                at_once(library, tally, decoded.value, &table)?;
+                at_once(library, tally, record, &table)?;
             }
         }
     }

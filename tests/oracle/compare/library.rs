@@ -8,7 +8,7 @@ use suongkivat::{
     Answer, Attenuation, Chip, Count, LineRecord, Millivolt, Sample, Session, Unit, c6, check_map, correct, next_sample, s2,
 };
 
-use crate::told::{Next, Outcome, Refused, Told, View};
+use crate::told::{Decoded, Next, Outcome, Refused, Told, View};
 
 macro_rules! library {
     ($($name:ident($($arg:ident: $type:ty),*) -> $answer:ty = $call:expr;)*) => {
@@ -71,6 +71,19 @@ fn viewed(field: &[u32], reference: &[u32], board: u8, block: u8) -> View {
     View { refused, board, first, words }
 }
 
+/// C's bytes of a record, as they stand in memory.
+fn bytes(record: LineRecord) -> [u8; 15] {
+    // SAFETY: a record has 16 bytes, of which these belong to its parts
+    unsafe { *std::ptr::from_ref(&record).cast() }
+}
+
+fn decoded(dump: &[u32], map: &[u8], unit: u8, atten: u8) -> Told<Decoded> {
+    let answer = LineRecord::decode(dump, map, Unit(unit), Attenuation(atten));
+    let beside = raw::decode(dump, map, unit, atten);
+    let refused = refused(&answer, beside.refusal);
+    Told { refused, value: Decoded { in_rust: answer.unwrap_or(beside.record), in_c: bytes(beside.record) } }
+}
+
 fn next(log: &[u8]) -> Next {
     let answer = next_sample(log);
     let beside = raw::next_sample(log);
@@ -95,8 +108,7 @@ library! {
     view(field: &[u32], reference: &[u32], board: u8, block: u8) -> View = viewed(field, reference, board, block);
     check_map(chip: u8, map: &[u8]) -> Outcome = outcome(check_map(Chip(chip), map), raw::check_map(chip, map).refusal);
 
-    decode(dump: &[u32], map: &[u8], unit: u8, atten: u8) -> Told<LineRecord> =
-        told(LineRecord::decode(dump, map, Unit(unit), Attenuation(atten)), in_c!(decode(dump, map, unit, atten).record));
+    decode(dump: &[u32], map: &[u8], unit: u8, atten: u8) -> Told<Decoded> = decoded(dump, map, unit, atten);
     check_record(cal: LineRecord) -> Outcome = outcome(cal.check(), raw::check_record(cal).refusal);
     convert(cal: LineRecord, raw: u16) -> Told<u16> =
         told(cal.convert(Count(raw)).map(|mv| mv.0), in_c!(convert(cal, Count(raw)).voltage.0));

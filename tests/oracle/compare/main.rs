@@ -21,6 +21,7 @@ mod smaller;
 mod strewn;
 mod tally;
 mod told;
+mod vref;
 
 use std::process::ExitCode;
 use std::time::{Duration, Instant};

@@ -3,7 +3,7 @@ use oracle::noise::Noise;
 
 use crate::library::Library;
 use crate::tally::{Compared, Tally};
-use crate::{c6, convert, curve, decode, fields, fill, firmware, logs, maps, records, s2};
+use crate::{c6, convert, curve, decode, fields, fill, firmware, logs, maps, records, s2, vref};
 
 pub struct Part {
     pub name: &'static str,
@@ -19,7 +19,7 @@ impl Part {
     }
 }
 
-pub const PARTS: [Part; 23] = [
+pub const PARTS: [Part; 24] = [
     Part { name: "fields", run: fields::fields },
     Part { name: "fields into bytes", run: fields::bytes },
     Part { name: "views", run: fields::views },
@@ -30,6 +30,7 @@ pub const PARTS: [Part; 23] = [
     Part { name: "decoding with faults", run: decode::refused },
     Part { name: "answers of firmware", run: firmware::firmware },
     Part { name: "line records", run: records::records },
+    Part { name: "records by Vref", run: vref::records },
     Part { name: "converting", run: convert::convert },
     Part { name: "filling", run: fill::fill },
     Part { name: "stretches at the ends", run: fill::ends },

@@ -1,6 +1,6 @@
 //! An answer as it is compared: why it was refused, and the values beside that.
 use oracle::rules::{Answer, Refusal, refusal_bytes};
-use suongkivat::Sample;
+use suongkivat::{LineRecord, Sample};
 
 /// Why a call was turned down: as the binding tells it in Rust, and C's three bytes, number, record and place. None and zeros where it
 /// wasn't.
@@ -34,6 +34,13 @@ impl From<Refusal> for Refused {
 pub struct Told<T> {
     pub refused: Refused,
     pub value: T,
+}
+
+/// A decoded record: as the binding tells it in Rust, and C's bytes of it but for the last, which isn't looked at.
+#[derive(Debug, Clone, Copy, PartialEq, Eq, Default)]
+pub struct Decoded {
+    pub in_rust: LineRecord,
+    pub in_c: [u8; 15],
 }
 
 #[derive(Debug, Clone, Copy, PartialEq, Eq)]

@@ -56,12 +56,19 @@ fn refuses_the_record(bad: LineRecord) {
 #[test]
 fn a_record_stays_inside_its_ranges() {
     for good in [record(), by_two_points()] {
-        refuses_the_record(LineRecord { coeff_a: 131072, ..good });
-        refuses_the_record(LineRecord { coeff_b: 4096, ..good });
-        [994, 1206].map(|vref| refuses_the_record(LineRecord { vref, ..good }));
-        [2, 255].map(|unit| refuses_the_record(LineRecord { unit: Unit(unit), ..good }));
-        [4, 255].map(|attenuation| refuses_the_record(LineRecord { attenuation: Attenuation(attenuation), ..good }));
-        [2, 255].map(|source| refuses_the_record(LineRecord { source: Source(source), ..good }));
+        for (coeff_a, coeff_b) in [(131072, good.coeff_b), (good.coeff_a, 4096)] {
+            refuses_the_record(LineRecord { coeff_a, coeff_b, ..good });
+        }
+        for vref in [994, 1206] {
+            refuses_the_record(LineRecord { vref, ..good });
+        }
+        for byte in [2, 3, 255] {
+            refuses_the_record(LineRecord { unit: Unit(byte), ..good });
+            refuses_the_record(LineRecord { source: Source(byte), ..good });
+        }
+        for byte in [4, 5, 255] {
+            refuses_the_record(LineRecord { attenuation: Attenuation(byte), ..good });
+        }
     }
     assert_eq!(LineRecord { coeff_a: 131071, coeff_b: 4095, vref: 1205, ..by_two_points() }.check(), Ok(()));
 }

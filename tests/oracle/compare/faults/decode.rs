@@ -1,13 +1,18 @@
 //! Faults of decoding.
 use oracle::document::{self, TwoPoints};
 use oracle::rules::Refusal;
-use suongkivat::{LineRecord, Unit};
+use suongkivat::{Attenuation, LineRecord, Source, Unit};
 
 use super::{bits, good, otherwise, refused, swapped, twos_complement, with_bits};
 use crate::library::PROVED;
-use crate::told::Told;
+use crate::told::{self, Told};
 
-type Decoded = Told<LineRecord>;
+type Decoded = Told<told::Decoded>;
+
+/// The answer with something else of its record, in Rust and in C.
+fn with_record(told: Decoded, change: impl FnOnce(LineRecord) -> LineRecord) -> Decoded {
+    if told.refused.number() == 0 { good(change(told.value.in_rust).into()) } else { told }
+}
 
 /// Decodes the sign and magnitude of what the bits mean in two's complement.
 pub fn vref_in_twos_complement(dump: &[u32], map: &[u8], unit: u8, atten: u8) -> Decoded {
@@ -16,9 +21,32 @@ pub fn vref_in_twos_complement(dump: &[u32], map: &[u8], unit: u8, atten: u8) ->
     (PROVED.decode)(&with_bits(dump, map, 0, sign_and_magnitude), map, unit, atten)
 }
 
-pub fn lookup_at_6_db(dump: &[u32], map: &[u8], unit: u8, atten: u8) -> Decoded {
+/// Two points for Vref, and Vref for two points.
+pub fn source_exchanged(dump: &[u32], map: &[u8], unit: u8, atten: u8) -> Decoded {
+    let other = |record: LineRecord| LineRecord { source: Source(1 - record.source.0), ..record };
+    with_record((PROVED.decode)(dump, map, unit, atten), other)
+}
+
+pub fn always_vref(dump: &[u32], map: &[u8], unit: u8, atten: u8) -> Decoded {
+    with_record((PROVED.decode)(dump, map, unit, atten), |record| LineRecord { source: Source::VREF, ..record })
+}
+
+/// Whatever the codes are.
+pub fn source_of_reserve(dump: &[u32], map: &[u8], unit: u8, atten: u8) -> Decoded {
+    let source = if bits(dump, map, 1) == 1 { Source::TWO_POINT } else { Source::VREF };
+    with_record((PROVED.decode)(dump, map, unit, atten), |record| LineRecord { source, ..record })
+}
+
+/// All that was kept of it before document 02: whether it is 3.
+pub fn attenuation_lost(dump: &[u32], map: &[u8], unit: u8, atten: u8) -> Decoded {
+    let kept = Attenuation(if atten == 3 { 3 } else { 0 });
+    with_record((PROVED.decode)(dump, map, unit, atten), |record| LineRecord { attenuation: kept, ..record })
+}
+
+/// Rust has them as they are.
+pub fn bytes_exchanged(dump: &[u32], map: &[u8], unit: u8, atten: u8) -> Decoded {
     let mut told = (PROVED.decode)(dump, map, unit, atten);
-    told.value.use_lut = u8::from(told.refused.number() == 0 && atten >= 2);
+    told.value.in_c.swap(13, 14);
     told
 }
 
@@ -35,7 +63,8 @@ pub fn plain_twos_complement(dump: &[u32], map: &[u8], unit: u8, atten: u8) -> D
     }
     let code = |k, width| twos_complement(bits(dump, map, k + usize::from(unit)), width);
     let TwoPoints { a, b, .. } = document::by_codes(unit.into(), atten.into(), code(2, 7), code(4, 9));
-    if b < 0 { refused(9) } else { good(LineRecord { coeff_a: a as u32, coeff_b: b as u32, ..told.value }) }
+    let line = |record: LineRecord| LineRecord { coeff_a: a as u32, coeff_b: b as u32, ..record };
+    if b < 0 { refused(9) } else { with_record(told, line) }
 }
 
 /// What two points give, where a call gets as far as them; none where it goes by Vref.
@@ -48,7 +77,7 @@ fn two_points(dump: &[u32], map: &[u8], unit: u8, atten: u8) -> Option<TwoPoints
 /// b by Vref is never 0.
 pub fn b_of_0_refused(dump: &[u32], map: &[u8], unit: u8, atten: u8) -> Decoded {
     let told = (PROVED.decode)(dump, map, unit, atten);
-    if told.refused.number() == 0 && told.value.coeff_b == 0 { refused(9) } else { told }
+    if told.refused.number() == 0 && told.value.in_rust.coeff_b == 0 { refused(9) } else { told }
 }
 
 /// The rule before document 02: 9 wherever t is above 850.
@@ -60,11 +89,11 @@ pub fn offset_passed_over(dump: &[u32], map: &[u8], unit: u8, atten: u8) -> Deco
 
 /// A difference that stops at 0, so that t above 850 leaves the offset alone.
 pub fn cut_at_zero(dump: &[u32], map: &[u8], unit: u8, atten: u8) -> Decoded {
-    let mut told = (PROVED.decode)(dump, map, unit, atten);
-    if let Some(points) = two_points(dump, map, unit, atten).filter(|points| told.refused.number() == 0 && points.t > 850) {
-        told.value.coeff_b = (points.b + points.t - 850) as u32;
+    let told = (PROVED.decode)(dump, map, unit, atten);
+    match two_points(dump, map, unit, atten).filter(|points| points.t > 850) {
+        Some(TwoPoints { t, b, .. }) => with_record(told, |record| LineRecord { coeff_b: (b + t - 850) as u32, ..record }),
+        None => told,
     }
-    told
 }
 
 /// b as a build without overflow checks has it, whatever its sign.
@@ -74,16 +103,22 @@ pub fn wrapped_around(dump: &[u32], map: &[u8], unit: u8, atten: u8) -> Decoded 
     else {
         return told;
     };
-    let vref = document::vref(bits(dump, map, 0)) as u32;
-    good(LineRecord { coeff_a: a as u32, coeff_b: b as u32, vref, unit: Unit(unit), use_lut: u8::from(atten == 3) })
+    let (coeff_a, coeff_b, vref) = (a as u32, b as u32, document::vref(bits(dump, map, 0)) as u32);
+    let (unit, attenuation, source) = (Unit(unit), Attenuation(atten), Source::TWO_POINT);
+    good(LineRecord { coeff_a, coeff_b, vref, unit, attenuation, source }.into())
 }
 
 pub fn refusal_with_vref(dump: &[u32], map: &[u8], unit: u8, atten: u8) -> Decoded {
-    let mut told = (PROVED.decode)(dump, map, unit, atten);
-    if told.refused.number() == 9 {
-        told.value.vref = 1100;
-    }
-    told
+    let told = (PROVED.decode)(dump, map, unit, atten);
+    let vref = LineRecord { vref: 1100, ..told.value.in_rust };
+    if told.refused.number() == 9 { Told { value: vref.into(), ..told } } else { told }
+}
+
+/// A record that isn't there has no source, and 1 isn't none.
+pub fn refusal_with_source(dump: &[u32], map: &[u8], unit: u8, atten: u8) -> Decoded {
+    let told = (PROVED.decode)(dump, map, unit, atten);
+    let source = LineRecord { source: Source::VREF, ..told.value.in_rust };
+    if told.refused.number() == 0 { told } else { Told { value: source.into(), ..told } }
 }
 
 pub fn unit_before_dump(dump: &[u32], map: &[u8], unit: u8, atten: u8) -> Decoded {

@@ -1,6 +1,7 @@
 //! Faults of filling.
 use suongkivat::{LineRecord, Millivolt};
 
+use super::line::{line_alone, looked_up_at_6_db, not_held, sourced};
 use super::outcome;
 use crate::library::PROVED;
 use crate::told::Outcome;
@@ -34,9 +35,33 @@ pub fn line_through_blend(cal: LineRecord, first: u16, out: &mut [Millivolt]) ->
     let told = (PROVED.fill)(cal, first, out);
     let below = 2945usize.saturating_sub(first.into()).min(out.len());
     if told == outcome(0) && first < 2880 {
-        (PROVED.fill)(LineRecord { use_lut: 0, ..cal }, first, &mut out[..below]);
+        (PROVED.fill)(line_alone(cal), first, &mut out[..below]);
     }
     told
+}
+
+pub fn lookup_at_6_db(cal: LineRecord, first: u16, out: &mut [Millivolt]) -> Outcome {
+    (PROVED.fill)(looked_up_at_6_db(cal), first, out)
+}
+
+pub fn by_any_line(cal: LineRecord, first: u16, out: &mut [Millivolt]) -> Outcome {
+    (PROVED.fill)(not_held(cal), first, out)
+}
+
+/// 11, where the same would be given for a record without the fault that was found.
+fn stretch_before(faultless: LineRecord, cal: LineRecord, first: u16, out: &mut [Millivolt]) -> Outcome {
+    let told = (PROVED.fill)(cal, first, out);
+    let past = || (PROVED.fill)(faultless, first, &mut out.to_vec()) == outcome(11);
+    if told == outcome(10) && past() { outcome(11) } else { told }
+}
+
+/// The ranges first, then 11, and only then the line of a record by Vref, or whether there is such a source.
+pub fn stretch_before_line(cal: LineRecord, first: u16, out: &mut [Millivolt]) -> Outcome {
+    stretch_before(not_held(cal), cal, first, out)
+}
+
+pub fn stretch_before_source(cal: LineRecord, first: u16, out: &mut [Millivolt]) -> Outcome {
+    stretch_before(sourced(cal), cal, first, out)
 }
 
 pub fn written_on_refusal(cal: LineRecord, first: u16, out: &mut [Millivolt]) -> Outcome {

@@ -92,7 +92,10 @@ faults! {
     }
     "decoding by Vref" {
         "Vref is read as two's complement": decode = decode::vref_in_twos_complement,
-        "the lookup is set at 6 dB too": decode = decode::lookup_at_6_db,
+        "the sources are exchanged": decode = decode::source_exchanged,
+        "the source goes by the reserve bit alone": decode = decode::source_of_reserve,
+        "of the attenuation only the lookup is kept": decode = decode::attenuation_lost,
+        "in C the source and the attenuation are exchanged": decode = decode::bytes_exchanged,
         "the other unit's codes may be zero": decode = decode::other_unit_passed_over,
         "in C a good answer has a record beside it": decode = decode::record_beside_good,
     }
@@ -101,6 +104,7 @@ faults! {
         "a b of 0 is refused": decode = decode::b_of_0_refused,
         "a negative b is answered, wrapped around": decode = decode::wrapped_around,
         "a refused record has its vref": decode = decode::refusal_with_vref,
+        "the source is Vref even so": decode = decode::always_vref,
     }
     "answers of firmware" {
         "9 is given wherever t is above 850": decode = decode::offset_passed_over,
@@ -110,10 +114,29 @@ faults! {
         "7 is asked for before 1": decode = decode::unit_before_dump,
         "2 is asked for before 7": decode = decode::map_before_unit,
         "a longer dump is taken": decode = decode::longer_dump,
+        "a refused record has a source": decode = decode::refusal_with_source,
     }
     "line records" {
         "vref 1206 is taken": check_record = line::vref_1206,
         "unit 2 is taken": check_record = line::unit_2,
+        "attenuation 4 is taken": check_record = line::attenuation_4,
+        "any source but Vref is two points": check_record = line::any_byte_is_two_points,
+        "a record by two points is held to Vref's line": check_record = line::two_points_held,
+    }
+    "records by Vref" {
+        "any line is taken": check_record = line::line_passed_over,
+        "any b is taken": check_record = line::another_b,
+        "an a one more is taken": check_record = line::a_one_more,
+        "a is rounded and not cut": check_record = line::a_rounded,
+        "the line is the other unit's": check_record = line::other_units_line,
+        "a Vref that no code gives is refused": check_record = line::vrefs_of_codes,
+        "source 2 is Vref": check_record = line::source_2,
+        "any line is converted by": convert = line::converted_by_any_line,
+        "8 is asked for before the line": convert = line::raw_before_line,
+        "8 is asked for before the source": convert = line::raw_before_source,
+        "any line is filled by": fill = fill::by_any_line,
+        "11 is asked for before the line": fill = fill::stretch_before_line,
+        "11 is asked for before the source": fill = fill::stretch_before_source,
     }
     "converting" {
         "the line's half is left out": convert = line::half_left_out,
@@ -122,7 +145,7 @@ faults! {
         "the blend begins at 2882": convert = line::later_blend,
         "raw 4096 is taken": convert = line::raw_4096,
         "8 is asked for before 10": convert = line::raw_before_record,
-        "only 1 is a yes for the lookup": convert = line::one_is_yes,
+        "the lookup is used at 6 dB too": convert = line::lookup_at_6_db,
     }
     "filling" {
         "a stretch's first count is left out of the sum": fill = fill::from_0,
@@ -130,6 +153,7 @@ faults! {
         "nothing is written": fill = fill::nothing_written,
         "the first number is repeated": fill = fill::first_repeated,
         "the line goes on through the blend": fill = fill::line_through_blend,
+        "the lookup is used at 6 dB too": fill = fill::lookup_at_6_db,
     }
     "stretches at the ends" {
         "one lent number is written on a refusal": fill = fill::written_on_refusal,

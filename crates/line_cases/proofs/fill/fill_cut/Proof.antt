@@ -5,10 +5,10 @@ use Rattle.line_cases.proofs.fill.fill_cut.Statement.{statement}
 use Rattle.line_cases.proofs.fill.fill_cut.Tie as tie
 
 abbrev Inv-loop : tie.InvT-loop
-Inv-loop «record» stretches stride n table₀ first₀ counter₀ table first counter = counter ≤ stretches
+Inv-loop handed stretches stride n table₀ first₀ counter₀ table first counter = counter ≤ stretches
 
 abbrev μ-loop : tie.MeasureT-loop
-μ-loop «record» stretches stride n table₀ first₀ counter₀ table first counter = stretches - counter
+μ-loop handed stretches stride n table₀ first₀ counter₀ table first counter = stretches - counter
 
 loop-holds : tie.Need-loop-holds Inv-loop μ-loop
 loop-holds c = search needs
