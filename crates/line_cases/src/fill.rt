@@ -66,19 +66,20 @@ fn same_cut(handed: Handed, case: &[u8], stretches: u16, stride: u16, n: usize) 
 }
 
 // Whether a table holds the case's answers however it is cut: as one stretch, in halves, by 64 as the lookup's points stand, one by
-// one, by a length that meets no point and is cut short at the end, falling and overlapping, scattered and each count three times. For C
-// it is cut in two of these ways.
+// one, by a length that meets no point and is cut short at the end, falling and overlapping, scattered and each count three times.
+fn same_cuts(handed: Handed, case: &[u8]) -> bool {
+    same_cut(handed, case, 1, 0, 4096)
+        && same_cut(handed, case, 2, 2048, 2048)
+        && same_cut(handed, case, 64, 64, 64)
+        && same_cut(handed, case, 4096, 1, 1)
+        && same_cut(handed, case, 111, 37, 37)
+        && same_cut(handed, case, 64, 4032, 100)
+        && same_cut(handed, case, 4096, 2891, 3)
+}
+
+// The same whoever the record is handed to.
 pub(crate) fn same_fill(case: &[u8]) -> bool {
-    let record = handed::to_library(case);
-    same_cut(handed::to_c(case), case, 1, 0, 4096)
-        && same_cut(handed::to_c(case), case, 111, 37, 37)
-        && same_cut(record, case, 1, 0, 4096)
-        && same_cut(record, case, 2, 2048, 2048)
-        && same_cut(record, case, 64, 64, 64)
-        && same_cut(record, case, 4096, 1, 1)
-        && same_cut(record, case, 111, 37, 37)
-        && same_cut(record, case, 64, 4032, 100)
-        && same_cut(record, case, 4096, 2891, 3)
+    same_cuts(handed::to_c(case), case) && same_cuts(handed::to_library(case), case)
 }
 
 fn sum_of(numbers: &[u16]) -> u32 {
