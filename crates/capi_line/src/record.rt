@@ -48,7 +48,7 @@ fn with_source(cal: SkvLineRecord, source: Source) -> LineRecord
     }
 }
 
-// The record that C handed in, or none where its last byte names no source. Each call checks the rest.
+// The record that C handed in, or none where its byte for the source names none. Each call checks the rest.
 pub(crate) fn record_from(cal: SkvLineRecord) -> Handed
     ensures { λ r. ⌜ r ≡ handed cal ⌝ }
 {

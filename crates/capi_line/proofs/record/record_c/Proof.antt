@@ -1,4 +1,4 @@
--- `capi_line::record::record_c` meets its contract: its last byte is the source's. Assumes nothing.
+-- `capi_line::record::record_c` meets its contract: its byte for the source is the source's. Assumes nothing.
 use borrow.Author.Needs.{needs}
 use Rattle.capi_line.proofs.record.record_c.Statement.{statement}
 use Rattle.capi_line.proofs.record.record_c.Tie as tie
