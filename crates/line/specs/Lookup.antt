@@ -15,7 +15,7 @@ lookupSum r raw = sumAt (r .unit) (r .vref) raw
 abbrev pub lookupVoltage : LineRecord → ℕ → ℕ
 lookupVoltage r raw = voltageAt (r .unit) (r .vref) raw
 
--- the counts of the lookup, by a record whose converter is inside its ranges
+-- the counts of the lookup, by a record whose Vref, unit and attenuation are inside their ranges
 unfoldable pub hasLookup : LineRecord → ℕ → Bool
 hasLookup r raw = converterInRanges r && leb 2880 raw && leb raw 4095
 
