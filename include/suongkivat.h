@@ -138,7 +138,7 @@ enum {
 
 /* What converting goes by: a up to 131071, b up to 4095, vref 995 to 1205, unit 0 or 1, attenuation 0 to 3, and the source. By Vref a and
    b are exactly those that vref gives for the unit and the attenuation. The lookup is used at attenuation 3. 16 bytes, of which the last
-   is not looked at. */
+   is not looked at. Bytes that version 2 stored are no such record, and needn't be refused: decode the board again. */
 typedef struct SkvLineRecord {
     uint32_t coeff_a;
     uint32_t coeff_b;
