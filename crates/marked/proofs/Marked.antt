@@ -13,7 +13,7 @@ use Rattle.vref.specs.Coefficients.{vrefScale, vrefOffset}
 use Rattle.esp32.specs.Code.{vrefOf, twoPointCode, pointOf, lowOf, highOf}
 use Rattle.esp32.specs.Characterize.{tpScale, tpOffset, twoPointA, topOf, bOf, bRefusal, twoPointB, coefficientsOf, basisRefusal}
 use Rattle.esp32.specs.Decode.{twoPointUsed, basisOf, sourceOf, foundOf, decodedRecord, decodeRefusal, decodeOf}
-use Rattle.line_record.specs.Record.{usesLookup, inRanges, hasVrefLine, fitsSource, goodRecord, recordRefusal}
+use Rattle.line_record.specs.Record.{usesLookup, lineInRanges, converterInRanges, hasVrefLine, fitsSource, goodRecord, recordRefusal}
 use Rattle.lut.specs.Row.{lowAt, highAt}
 use Rattle.lut.specs.Lookup.{numeratorAt, voltageAt}
 use Rattle.line.specs.Convert.{lineVoltage, blendOf, beyondLine, answerAt, convertRefusal, convertOf}
@@ -33,7 +33,7 @@ pub marked : map (λ (c : Case). c .asked) cases ≡ map (λ (c : Case). c .answ
 unfolding
     vrefOf twoPointCode pointOf lowOf highOf signMagnitude
     tpScale tpOffset vrefScale vrefOffset twoPointA topOf bOf bRefusal twoPointB coefficientsOf basisRefusal
-    usesLookup inRanges hasVrefLine fitsSource goodRecord recordRefusal lowAt highAt numeratorAt voltageAt lineVoltage blendOf beyondLine answerAt convertRefusal convertOf
+    usesLookup lineInRanges converterInRanges hasVrefLine fitsSource goodRecord recordRefusal lowAt highAt numeratorAt voltageAt lineVoltage blendOf beyondLine answerAt convertRefusal convertOf
     firstOf dumpRefusal bitsOf placeRefusal fieldBits countRefusal mapRecordRefusal mapRefusal toldOf decodingRefusal valueById
     twoPointUsed basisOf sourceOf foundOf decodedRecord decodeRefusal decodeOf
     flatten calibMap entryAt byVersion tagOf termOf within readingOf readingRefusal calibReadingOf
