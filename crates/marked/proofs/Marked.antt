@@ -33,7 +33,8 @@ pub marked : map (λ (c : Case). c .asked) cases ≡ map (λ (c : Case). c .answ
 unfolding
     vrefOf twoPointCode pointOf lowOf highOf signMagnitude
     tpScale tpOffset vrefScale vrefOffset twoPointA topOf bOf bRefusal twoPointB coefficientsOf basisRefusal
-    usesLookup lineInRanges converterInRanges hasVrefLine fitsSource goodRecord recordRefusal lowAt highAt numeratorAt voltageAt lineVoltage blendOf beyondLine answerAt convertRefusal convertOf
+    usesLookup lineInRanges converterInRanges hasVrefLine fitsSource goodRecord recordRefusal
+    lowAt highAt numeratorAt voltageAt lineVoltage blendOf beyondLine answerAt convertRefusal convertOf
     firstOf dumpRefusal bitsOf placeRefusal fieldBits countRefusal mapRecordRefusal mapRefusal toldOf decodingRefusal valueById
     twoPointUsed basisOf sourceOf foundOf decodedRecord decodeRefusal decodeOf
     flatten calibMap entryAt byVersion tagOf termOf within readingOf readingRefusal calibReadingOf
