@@ -1,5 +1,5 @@
 -- A decoded record says where it came from: its source goes by the same test as its a and b. Assumes nothing.
-use mathlib.Core.Path.{_≡_, refl, sym, _∙_}
+use mathlib.Core.Path.{refl, sym, _∙_}
 use mathlib.Core.List.{List}
 use Prim.Native.Nat.{ℕ}
 use Rattle.terms.proofs.Order.{whether}

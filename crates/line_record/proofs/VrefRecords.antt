@@ -1,12 +1,8 @@
 -- The check accepts exactly the records that Vref gives, among those by Vref: their a and b are inside the ranges, and any other's aren't
 -- what they have to be. Assumes nothing.
-use mathlib.Core.Path.{_≡_, refl}
-use Prim.Native.Nat.{ℕ}
+use mathlib.Core.Path.{refl}
 use Rattle.vref.proofs.Lines.{vref-ranges}
-use Rattle.line_record.specs.declared.record.LineRecord.{LineRecord}
-use Rattle.line_record.specs.declared.record.Source.the-variants.{Vref}
-use Rattle.line_record.specs.Record.{recordRefusal}
-use Rattle.line_record.specs.VrefRecords.{vrefRecord, VrefRecords}
+use Rattle.line_record.specs.VrefRecords.{VrefRecords}
 use Rattle.line_record.proofs.Records.{record-whole, record-good}
 
 pub vref-records : VrefRecords

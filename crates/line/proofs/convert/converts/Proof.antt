@@ -1,5 +1,4 @@
 -- `line::converts` meets its contract: nothing is refused exactly if the record is good and the count is at most 4095. Assumes nothing.
-use mathlib.Core.Path.{_∙_}
 use borrow.Author.Needs.{needs}
 use Rattle.line.proofs.Exactly.{convert-test}
 use Rattle.line.proofs.convert.converts.Statement.{statement}

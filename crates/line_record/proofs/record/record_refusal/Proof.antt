@@ -1,5 +1,4 @@
 -- `line_record::record_refusal` meets its contract: one test decides between none and 10. Assumes nothing.
-use mathlib.Core.Path.{sym, _∙_}
 use borrow.Author.Needs.{needs}
 use Rattle.line_record.specs.Record.{recordRefusal}
 use Rattle.line_record.proofs.record.record_refusal.Statement.{statement}

@@ -1,9 +1,8 @@
 -- `vref::is_vref_line` meets its contract: a and b are compared as the halves of one number. Assumes nothing.
-use mathlib.Core.Path.{_≡_, sym, _∙_}
+use mathlib.Core.Path.{sym, _∙_}
 use Prim.Native.Nat.{_*_, _≤_}
 use native.Mathlib.Omega.{arith}
 use borrow.Author.Needs.{needs}
-use Rattle.vref.specs.Coefficients.{vrefScale}
 use Rattle.vref.proofs.Halves.{joined-same}
 use Rattle.vref.proofs.Lines.{product-small, there-is, by-line, no-line}
 use Rattle.vref.proofs.coefficients.is_vref_line.Statement.{statement}
