@@ -4,10 +4,11 @@
    zeros for values, and leaves lent memory as it was. Number 0 is no refusal. A refusal of a map also tells which of its records is bad.
    The calls are proved to give exactly the answers of the definitions in crates/, for whatever is handed in.
 
-   Memory. A length counts elements: words of a dump, bytes of a map or a log, numbers of a list. What the proof takes for granted of a
-   caller is that each pointer has the length beside it in readable memory (writable for bytes and millivolts), and that no lent memory
-   that a call writes overlaps any other that it is handed. Empty memory is a length of 0 beside a pointer to anything: no element is
-   read, but the pointer must not be null. So no call takes NULL, 0. Nothing is kept after a call, and no call allocates.
+   Memory. A length counts elements: words of a dump, bytes of a map, a log or a list of block lengths, numbers of a table. What the
+   proof takes for granted of a caller is that each pointer has the length beside it in readable memory (writable for bytes and
+   millivolts), and that no lent memory that a call writes overlaps any other that it is handed. Empty memory is a length of 0 beside a
+   pointer to anything: no element is read, but the pointer must not be null. So no call takes NULL, 0. Nothing is kept after a call,
+   and no call allocates.
 
    Threads. The library has no state: any number of threads may call at once, as long as none writes what another has lent.
 
@@ -24,19 +25,23 @@ extern "C" {
 
 /* The version of this header and its library. The first number changes where a caller has to be changed or compiled anew, the second
    where something was added. */
-#define SKV_VERSION_MAJOR 3
+#define SKV_VERSION_MAJOR 4
 #define SKV_VERSION_MINOR 0
-#define SKV_VERSION "3.0"
+#define SKV_VERSION "4.0"
 
 /* Lengths, in elements. */
 enum {
-    SKV_DUMP_WORDS = 88,      /* blocks 0 to 10, eight words each */
+    SKV_DUMP_WORDS = 88,      /* blocks 0 to 10, room for eight words each */
+    SKV_BLOCKS = 11,          /* a list of block lengths: a byte a block, how many words of it there are, 0 to 8 */
     SKV_ESP32_MAP_BYTES = 48, /* a map is records of 8 bytes, one a field of its chip */
     SKV_S2_MAP_BYTES = 16,
     SKV_C6_MAP_BYTES = 120,
     SKV_SAMPLE_BYTES = 4, /* a record of a log */
     SKV_COUNTS = 4096     /* counts are 0 to 4095: a table of all their millivolts */
 };
+
+/* The list of a chip whose blocks all have eight words: const uint8_t lengths[SKV_BLOCKS] = SKV_EIGHTS; */
+#define SKV_EIGHTS {8, 8, 8, 8, 8, 8, 8, 8, 8, 8, 8}
 
 /* Why a call was turned down. A call that takes a map gives 2, then for each record from first to last 3, 18, 4, 5, 6: "the map's"
    below. */
@@ -46,7 +51,7 @@ enum {
     SKV_MAP = 2,          /* the map's length isn't its chip's */
     SKV_MAP_ID = 3,       /* a map record's id isn't that of its place */
     SKV_BLOCK = 4,        /* block above 10 */
-    SKV_BIT_RANGE = 5,    /* bit start above 255, or start + count above 256 */
+    SKV_BIT_RANGE = 5,    /* bit start above 255, or start + count past the block's own length, 32 bits a word */
     SKV_BIT_COUNT = 6,    /* a map record's bit count isn't its id's */
     SKV_UNIT = 7,         /* unit above 1 or attenuation above 3 */
     SKV_RAW = 8,          /* count above 4095 */
@@ -58,7 +63,8 @@ enum {
     SKV_CURVE = 14,       /* no curve for that chip and unit */
     SKV_BOARD = 15,       /* board above 1, or a sample's last byte above 7 */
     SKV_LOG = 16,         /* log ends inside a record */
-    SKV_MAP_BYTE = 18     /* a byte among a map record's last three isn't zero */
+    SKV_MAP_BYTE = 18,    /* a byte among a map record's last three isn't zero */
+    SKV_LENGTHS = 20      /* the list of block lengths isn't eleven, or one of them is above 8 */
 };
 
 /* The chips. Maps are those of ESP32, S2 and C6. */
@@ -74,8 +80,8 @@ enum {
     SKV_S3 = 8
 };
 
-/* A refusal's number, or SKV_NONE. Where a call that takes a map gives 3, 18, 4, 5 or 6, record is the number of the map's first bad
-   record, from 0; at 18 place is that of its first byte that should be zero and isn't: 5, 6 or 7. Else both are 0. */
+/* A refusal's number, or SKV_NONE. Where a call gives 3, 18, 4, 5 or 6 for a record of its map, record is the number of the map's first
+   bad record, from 0; at 18 place is that of its first byte that should be zero and isn't: 5, 6 or 7. Else both are 0. */
 typedef struct SkvRefusal {
     uint8_t number;
     uint8_t record;
@@ -183,31 +189,33 @@ typedef struct SkvNext {
 /* Fields. */
 
 /* A field's value at 8, 16 or 32 bits: its low bits.
-   Refusals 1 (dump), 4 (block), 5 (bit range). */
-SkvRead skv_read_field_u8(const uint32_t *dump, size_t dump_len, SkvField field);
-SkvRead skv_read_field_u16(const uint32_t *dump, size_t dump_len, SkvField field);
-SkvRead skv_read_field_u32(const uint32_t *dump, size_t dump_len, SkvField field);
+   Refusals 1 (dump), 20 (lengths), 4 (block), 5 (bit range). */
+SkvRead skv_read_field_u8(const uint32_t *dump, size_t dump_len, const uint8_t *lengths, size_t lengths_len, SkvField field);
+SkvRead skv_read_field_u16(const uint32_t *dump, size_t dump_len, const uint8_t *lengths, size_t lengths_len, SkvField field);
+SkvRead skv_read_field_u32(const uint32_t *dump, size_t dump_len, const uint8_t *lengths, size_t lengths_len, SkvField field);
 
 /* Reads a field into the lent bytes, low first; all of them are written.
-   Refusals 1 (dump), 4 (block), 5 (bit range). */
-SkvOutcome skv_read_field_le(const uint32_t *dump, size_t dump_len, SkvField field, uint8_t *bytes, size_t bytes_len);
+   Refusals 1 (dump), 20 (lengths), 4 (block), 5 (bit range). */
+SkvOutcome skv_read_field_le(const uint32_t *dump, size_t dump_len, const uint8_t *lengths, size_t lengths_len, SkvField field,
+                             uint8_t *bytes, size_t bytes_len);
 
-/* Where a block's words stand in the chosen board's dump, which alone is checked.
-   Refusals 15 (board), 1 (dump), 4 (block). */
+/* Where a block's own words stand in the chosen board's dump, which alone is checked; perhaps none, at the block's start.
+   Refusals 15 (board), 1 (dump), 20 (lengths), 4 (block). */
 SkvView skv_view(const uint32_t *field_dump, size_t field_dump_len, const uint32_t *reference_dump, size_t reference_dump_len,
-                 uint8_t board, uint8_t block);
+                 const uint8_t *lengths, size_t lengths_len, uint8_t board, uint8_t block);
 
 /* Maps. */
 
 /* Whether a map is its chip's. No map is that of a chip other than ESP32, S2 and C6: 2.
-   Refusals: the map's. */
-SkvOutcome skv_check_map(uint8_t chip, const uint8_t *map, size_t map_len);
+   Refusals 20 (lengths), the map's. */
+SkvOutcome skv_check_map(uint8_t chip, const uint8_t *lengths, size_t lengths_len, const uint8_t *map, size_t map_len);
 
 /* ESP32 line calibration. */
 
 /* The line record of a unit at an attenuation.
-   Refusals 1 (dump), 7 (unit or attenuation), the map's, 9 (underflow, at this attenuation). */
-SkvDecoded skv_decode(const uint32_t *dump, size_t dump_len, const uint8_t *map, size_t map_len, uint8_t unit, uint8_t attenuation);
+   Refusals 1 (dump), 20 (lengths), 7 (unit or attenuation), the map's, 9 (underflow, at this attenuation). */
+SkvDecoded skv_decode(const uint32_t *dump, size_t dump_len, const uint8_t *lengths, size_t lengths_len, const uint8_t *map,
+                      size_t map_len, uint8_t unit, uint8_t attenuation);
 
 /* Whether a record is one to convert by: inside its ranges, and by Vref with its Vref's a and b.
    Refusal 10 (line record). */
@@ -224,14 +232,18 @@ SkvOutcome skv_fill(SkvLineRecord record, SkvCount first_count, uint16_t *milliv
 /* The S2. */
 
 /* The calibration's version.
-   Refusals 1 (dump), the map's. */
-SkvVersion skv_s2_version(const uint32_t *dump, size_t dump_len, const uint8_t *map, size_t map_len);
+   Refusals 1 (dump), 20 (lengths), the map's. */
+SkvVersion skv_s2_version(const uint32_t *dump, size_t dump_len, const uint8_t *lengths, size_t lengths_len, const uint8_t *map,
+                          size_t map_len);
 
 /* A parameter's reading by a version, 0 where the two don't pair: low voltage, high voltage, initial code.
-   Refusals 1 (dump), 7 (unit or attenuation). */
-SkvReading skv_s2_reading_vlow(const uint32_t *dump, size_t dump_len, uint8_t version, uint8_t unit, uint8_t attenuation);
-SkvReading skv_s2_reading_vhigh(const uint32_t *dump, size_t dump_len, uint8_t version, uint8_t unit, uint8_t attenuation);
-SkvReading skv_s2_reading_vinit(const uint32_t *dump, size_t dump_len, uint8_t version, uint8_t unit, uint8_t attenuation);
+   Refusals 1 (dump), 20 (lengths), 7 (unit or attenuation), 5 (a field that it reads lies past block 2's own length). */
+SkvReading skv_s2_reading_vlow(const uint32_t *dump, size_t dump_len, const uint8_t *lengths, size_t lengths_len, uint8_t version,
+                               uint8_t unit, uint8_t attenuation);
+SkvReading skv_s2_reading_vhigh(const uint32_t *dump, size_t dump_len, const uint8_t *lengths, size_t lengths_len, uint8_t version,
+                                uint8_t unit, uint8_t attenuation);
+SkvReading skv_s2_reading_vinit(const uint32_t *dump, size_t dump_len, const uint8_t *lengths, size_t lengths_len, uint8_t version,
+                                uint8_t unit, uint8_t attenuation);
 
 /* The same with the eFuse skipped.
    Refusal 7 (unit or attenuation). */
@@ -240,19 +252,20 @@ SkvReading skv_s2_skipped_vhigh(uint8_t version, uint8_t unit, uint8_t attenuati
 SkvReading skv_s2_skipped_vinit(uint8_t version, uint8_t unit, uint8_t attenuation);
 
 /* The initial code, and the code at the reference voltage.
-   Refusals 1 (dump), 7 (unit or attenuation), the map's, 12 (no code). */
-SkvCode skv_s2_init_code(const uint32_t *dump, size_t dump_len, const uint8_t *map, size_t map_len, uint8_t unit,
-                         uint8_t attenuation);
-SkvCode skv_s2_cal_code(const uint32_t *dump, size_t dump_len, const uint8_t *map, size_t map_len, uint8_t unit,
-                        uint8_t attenuation);
+   Refusals 1 (dump), 20 (lengths), 7 (unit or attenuation), the map's, 12 (no code), 5 (as a reading's: no record is told). */
+SkvCode skv_s2_init_code(const uint32_t *dump, size_t dump_len, const uint8_t *lengths, size_t lengths_len, const uint8_t *map,
+                         size_t map_len, uint8_t unit, uint8_t attenuation);
+SkvCode skv_s2_cal_code(const uint32_t *dump, size_t dump_len, const uint8_t *lengths, size_t lengths_len, const uint8_t *map,
+                        size_t map_len, uint8_t unit, uint8_t attenuation);
 
 /* The reference voltage of an attenuation.
    Refusal 7 (unit or attenuation). */
 SkvVoltage skv_s2_cal_mv(uint8_t unit, uint8_t attenuation);
 
 /* Whether flash encryption is on.
-   Refusals 1 (dump), the map's. */
-SkvFlashEncryption skv_s2_flash_encryption(const uint32_t *dump, size_t dump_len, const uint8_t *map, size_t map_len);
+   Refusals 1 (dump), 20 (lengths), the map's. */
+SkvFlashEncryption skv_s2_flash_encryption(const uint32_t *dump, size_t dump_len, const uint8_t *lengths, size_t lengths_len,
+                                           const uint8_t *map, size_t map_len);
 
 /* The C6. */
 
@@ -260,16 +273,16 @@ SkvFlashEncryption skv_s2_flash_encryption(const uint32_t *dump, size_t dump_len
 uint8_t skv_c6_version(uint8_t minor_block_version);
 
 /* The initial code, and the code at the reference voltage.
-   Refusals 1 (dump), 7 (unit or attenuation), the map's, 12 (no code). */
-SkvCode skv_c6_init_code(const uint32_t *dump, size_t dump_len, const uint8_t *map, size_t map_len, uint8_t minor_block_version,
-                         uint8_t unit, uint8_t attenuation);
-SkvCode skv_c6_cal_code(const uint32_t *dump, size_t dump_len, const uint8_t *map, size_t map_len, uint8_t minor_block_version,
-                        uint8_t unit, uint8_t attenuation);
+   Refusals 1 (dump), 20 (lengths), 7 (unit or attenuation), the map's, 12 (no code). */
+SkvCode skv_c6_init_code(const uint32_t *dump, size_t dump_len, const uint8_t *lengths, size_t lengths_len, const uint8_t *map,
+                         size_t map_len, uint8_t minor_block_version, uint8_t unit, uint8_t attenuation);
+SkvCode skv_c6_cal_code(const uint32_t *dump, size_t dump_len, const uint8_t *lengths, size_t lengths_len, const uint8_t *map,
+                        size_t map_len, uint8_t minor_block_version, uint8_t unit, uint8_t attenuation);
 
 /* A channel's compensation; channels 6 and up use channel 6.
-   Refusals 1 (dump), 7 (unit or attenuation), the map's. */
-SkvReading skv_c6_get_chan_compens(const uint32_t *dump, size_t dump_len, const uint8_t *map, size_t map_len, uint8_t unit,
-                                   uint8_t channel, uint8_t attenuation);
+   Refusals 1 (dump), 20 (lengths), 7 (unit or attenuation), the map's. */
+SkvReading skv_c6_get_chan_compens(const uint32_t *dump, size_t dump_len, const uint8_t *lengths, size_t lengths_len,
+                                   const uint8_t *map, size_t map_len, uint8_t unit, uint8_t channel, uint8_t attenuation);
 
 /* The reference voltage of an attenuation.
    Refusal 7 (unit or attenuation). */
@@ -290,7 +303,7 @@ SkvNext skv_next_sample(const uint8_t *log, size_t log_len);
 /* A sample's millivolts, by the ESP32 map and the dump of its board.
    Refusals 15 (board), those of skv_decode, 8 (count). */
 SkvVoltage skv_sample(SkvSample sample, const uint32_t *field_dump, size_t field_dump_len, const uint32_t *reference_dump,
-                      size_t reference_dump_len, const uint8_t *map, size_t map_len);
+                      size_t reference_dump_len, const uint8_t *lengths, size_t lengths_len, const uint8_t *map, size_t map_len);
 
 #ifdef __cplusplus
 }
