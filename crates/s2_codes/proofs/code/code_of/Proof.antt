@@ -90,7 +90,7 @@ unfolding codeOf
 returns-3 c =
     let begin = c .before .before .before .before in
     let five =
-        table-refused _ _ 2 _ _ _ (ready begin) (unit-there begin) (c .before .before .before .table-reading .ensures) (c .before .reading2 .given .1) in
+    table-refused _ _ 2 _ _ _ (ready begin) (unit-there begin) (c .before .before .before .table-reading .ensures) (c .before .reading2 .given .1) in
     told-refused _ _ Refused (five .1 ∙ sym (code-table _ _ _ _ _ _ (accepted begin))) (λ z. five .0 (sym (number-is (five .1)) ∙ z))
 
 pub code-of-spec : {M : Type 1} → statement M
