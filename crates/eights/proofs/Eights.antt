@@ -1,6 +1,6 @@
 -- By eleven eights every call answers as document 01 has it: the list is good, each block has eight words, and of the S2's table no field lies
 -- outside. Assumes nothing.
-use mathlib.Core.Path.{_≡_, refl, sym, _∙_, ap}
+use mathlib.Core.Path.{_≡_, refl, sym, _∙_}
 use mathlib.Core.List.{List}
 use Prim.Native.Nat.{ℕ, zero, suc, _+_, _≤_, _<_}
 use native.Mathlib.Omega.{arith}

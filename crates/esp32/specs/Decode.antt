@@ -1,6 +1,6 @@
 -- Document 01, "ESP32 line rules", and the order of "Numbers given when a call is turned down" for decoding: "1, 7, 2, then map
--- records first to last with 3, 4, 5, 6 within each, then .. 9"; by document 02, #102, 18 comes after 3. A dump is the list of its words,
--- a map that of its bytes. In esp-hal: `new_cal` and `check_efuse_tp` of calibration/line/esp32.rs, which cites ESP-IDF's
+-- records first to last with 3, 4, 5, 6 within each, then .. 9"; by document 02, 18 comes after 3 (#102), and 20 after 1 (#109). A dump
+-- is the list of its words, a map and a list of block lengths that of its bytes. In esp-hal: `new_cal` and `check_efuse_tp` of calibration/line/esp32.rs, which cites ESP-IDF's
 -- components/esp_adc/esp32/adc_cali_line_fitting.c, line 155.
 use mathlib.Core.Bool.{Bool, not, cond, _&&_}
 use mathlib.Core.List.{List}
@@ -71,7 +71,7 @@ recordFrom found unit atten =
 unfoldable pub decodedRecord : List ℕ → List ℕ → ℕ → ℕ → LineRecord
 decodedRecord dump map unit atten = recordFrom (foundOf dump map unit atten) unit atten
 
--- 1, 7 and those of the map, then 9
+-- 1, 20, 7 and those of the map, then 9
 unfoldable pub decodeRefusal : List ℕ → List ℕ → List ℕ → ℕ → ℕ → ℕ
 decodeRefusal lengths dump map unit atten =
     orElse (decodingRefusal lengths Esp32 dump map unit atten)

@@ -1,5 +1,6 @@
 -- Document 01, "S2, C6 and curves": the C6's compensation by channel, "as in the crate": `rtc_calib_get_chan_compens` of
--- efuse/esp32c6/mod.rs, from ESP-IDF's components/efuse/esp32c6/esp_efuse_rtc_calib.c, line 60. Its refusals: 1, 7, those of the map.
+-- efuse/esp32c6/mod.rs, from ESP-IDF's components/efuse/esp32c6/esp_efuse_rtc_calib.c, line 60. Its refusals: 1, 7, those of the map,
+-- by document 02, #109, with 20 after 1.
 use mathlib.Core.List.{List}
 use Prim.Native.Nat.{ℕ, _+_, _-_, min}
 use lib.IntN.{ℤ, pos, _*ℤ_}

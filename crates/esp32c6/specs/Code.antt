@@ -1,6 +1,6 @@
 -- Document 01, "S2, C6 and curves": the C6's initial and reference codes, "as in the crate": `rtc_calib_init_code` and
 -- `rtc_calib_cal_code` of efuse/esp32c6/mod.rs, from ESP-IDF's components/efuse/esp32c6/esp_efuse_rtc_calib.c, lines 35 and 98.
--- Their refusals: 1, 7, those of the map, 12.
+-- Their refusals: 1, 7, those of the map, 12, by document 02, #109, with 20 after 1.
 use mathlib.Core.Bool.{not, cond, _||_}
 use mathlib.Core.List.{List}
 use Prim.Native.Nat.{ℕ, _+_}
@@ -20,7 +20,7 @@ use Rattle.terms.specs.C6Version.{versionOf}
 unfoldable pub versionRefusal : ℕ → ℕ
 versionRefusal minor = refuse (not (eqb (versionOf minor) 1 || eqb (versionOf minor) 2)) 12 0
 
--- 1, 7 and those of the map, then 12
+-- 1, 20, 7 and those of the map, then 12
 unfoldable pub codeRefusal : List ℕ → List ℕ → List ℕ → ℕ → ℕ → ℕ → ℕ
 codeRefusal lengths dump map minor unit atten =
     orElse (decodingRefusal lengths C6 dump map unit atten)

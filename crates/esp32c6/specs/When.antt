@@ -9,7 +9,7 @@ use Rattle.terms.specs.declared.chip.MapChip.the-variants.{C6}
 use Rattle.inputs.specs.When.{DecodingWhen}
 use Rattle.terms.specs.C6Version.{versionOf}
 
--- 1, 7 and those of the map, then 12
+-- 1, 20, 7 and those of the map, then 12
 -- 12: "C6 version not 1 or 2"
 pub data CodeWhen (lengths dump map : List ℕ) (minor unit atten : ℕ) : ℕ → Type 0 where
   before : {n : ℕ} → DecodingWhen lengths C6 dump map unit atten n → (n ≡ 0 → ⊥) → CodeWhen lengths dump map minor unit atten n

@@ -1,5 +1,5 @@
 -- Document 01, "S2, C6 and curves": the S2's flash encryption. In esp-hal: `flash_encryption` of efuse/esp32s2/mod.rs. Its refusals:
--- 1, those of the map.
+-- 1, those of the map, by document 02, #109, with 20 after 1.
 use mathlib.Core.Bool.{Bool, false}
 use mathlib.Core.List.{List}
 use Prim.Native.Nat.{ℕ, zero, suc, _+_, _/_, _%_}

@@ -1,5 +1,6 @@
 -- Document 01, "S2, C6 and curves": the version of the S2's calibration. In esp-hal: `rtc_calib_version` of efuse/esp32s2/mod.rs, from
--- ESP-IDF's components/efuse/esp32s2/esp_efuse_rtc_table.c, line 92. Its refusals: 1, those of the map.
+-- ESP-IDF's components/efuse/esp32s2/esp_efuse_rtc_table.c, line 92. Its refusals: 1, those of the map,
+-- by document 02, #109, with 20 after 1.
 use mathlib.Core.List.{List}
 use Prim.Native.Nat.{ℕ}
 use Rattle.terms.specs.declared.chip.MapChip.the-variants.{S2}

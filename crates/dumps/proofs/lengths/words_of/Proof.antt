@@ -1,6 +1,5 @@
 -- `dumps::words_of` meets its contract: past the list's end there is the list's default, 0. Assumes nothing.
 use mathlib.Core.Path.{sym}
-use native.Mathlib.Omega.{arith}
 use lib.ListN.{List·getD-eq-default}
 use denote.Ref.{now}
 use borrow.Author.Needs.{needs}

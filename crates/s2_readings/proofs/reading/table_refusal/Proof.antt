@@ -1,6 +1,5 @@
 -- `s2_readings::table_refusal` meets its contract: the tests that lead to each `return` say which case it is. Assumes nothing.
-use mathlib.Core.Path.{_≡_, sym, _∙_, ap}
-use lib.ListN.{length}
+use mathlib.Core.Path.{sym, _∙_, ap}
 use denote.Ref.{now}
 use borrow.Author.Needs.{needs}
 use Rattle.terms.proofs.Refusals.{unit-inside}
