@@ -12,7 +12,7 @@ pub(crate) struct RtcCalibEntry(
     pub(crate) u8,
 );
 
-// The entry of a tag. As a `match` it is constant data, while a constant array would be made anew at each use.
+// The entry of a tag. In esp-hal: `RTC_CALIB_MAP`. As a `match` it is constant data, while a constant array would be made anew at each use.
 pub(crate) fn entry_at(tag: u8) -> RtcCalibEntry
     requires { ⌜ tag < 33 ⌝ }
     ensures { λ r. ⌜ r ≡ entryAt tag ⌝ }
