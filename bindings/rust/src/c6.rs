@@ -10,11 +10,18 @@ pub fn version(minor_block_version: u8) -> u8 {
 /// The initial code.
 ///
 /// # Errors
-/// [`Dump`](crate::Reason::Dump), [`Unit`](crate::Reason::Unit), those of [`check_map`](crate::check_map),
-/// [`NoCode`](crate::Reason::NoCode).
+/// [`Dump`](crate::Reason::Dump), [`Lengths`](crate::Reason::Lengths), [`Unit`](crate::Reason::Unit), the map's
+/// ([`check_map`](crate::check_map)), [`NoCode`](crate::Reason::NoCode).
 #[inline]
-pub fn init_code(dump: &[u32], map: &[u8], minor_block_version: u8, unit: Unit, attenuation: Attenuation) -> Answer<u16> {
-    let answer = raw::c6_init_code(dump, map, minor_block_version, unit.0, attenuation.0);
+pub fn init_code(
+    dump: &[u32],
+    lengths: &[u8],
+    map: &[u8],
+    minor_block_version: u8,
+    unit: Unit,
+    attenuation: Attenuation,
+) -> Answer<u16> {
+    let answer = raw::c6_init_code(dump, lengths, map, minor_block_version, unit.0, attenuation.0);
     answer.refusal.or_of_map(answer.code)
 }
 
@@ -23,18 +30,33 @@ pub fn init_code(dump: &[u32], map: &[u8], minor_block_version: u8, unit: Unit, 
 /// # Errors
 /// Those of [`init_code`].
 #[inline]
-pub fn cal_code(dump: &[u32], map: &[u8], minor_block_version: u8, unit: Unit, attenuation: Attenuation) -> Answer<u16> {
-    let answer = raw::c6_cal_code(dump, map, minor_block_version, unit.0, attenuation.0);
+pub fn cal_code(
+    dump: &[u32],
+    lengths: &[u8],
+    map: &[u8],
+    minor_block_version: u8,
+    unit: Unit,
+    attenuation: Attenuation,
+) -> Answer<u16> {
+    let answer = raw::c6_cal_code(dump, lengths, map, minor_block_version, unit.0, attenuation.0);
     answer.refusal.or_of_map(answer.code)
 }
 
 /// A channel's compensation; channels 6 and up use channel 6.
 ///
 /// # Errors
-/// [`Dump`](crate::Reason::Dump), [`Unit`](crate::Reason::Unit), those of [`check_map`](crate::check_map).
+/// [`Dump`](crate::Reason::Dump), [`Lengths`](crate::Reason::Lengths), [`Unit`](crate::Reason::Unit), the map's
+/// ([`check_map`](crate::check_map)).
 #[inline]
-pub fn get_chan_compens(dump: &[u32], map: &[u8], unit: Unit, channel: u8, attenuation: Attenuation) -> Answer<i32> {
-    let answer = raw::c6_get_chan_compens(dump, map, unit.0, channel, attenuation.0);
+pub fn get_chan_compens(
+    dump: &[u32],
+    lengths: &[u8],
+    map: &[u8],
+    unit: Unit,
+    channel: u8,
+    attenuation: Attenuation,
+) -> Answer<i32> {
+    let answer = raw::c6_get_chan_compens(dump, lengths, map, unit.0, channel, attenuation.0);
     answer.refusal.or_of_map(answer.value)
 }
 

@@ -3,18 +3,18 @@
 //!
 //! - **Answers.** A call takes any input, and gives [`Answer`]: its value, or the [`Refusal`] that says why there is none, and on a map
 //!   which of its records is bad. No call panics, but for indexing a [`Table`] past its end.
-//! - **Memory is lent.** A dump is a slice of words, a map or a log one of bytes; nothing is copied, kept or allocated. A refused call
-//!   leaves what it was lent as it was.
+//! - **Memory is lent.** A dump is a slice of words; a list of block lengths, a map or a log is one of bytes. Nothing is copied, kept or
+//!   allocated. A refused call leaves what it was lent as it was.
 //! - **Numbers that mean different things are different types**: [`Count`] and [`Millivolt`], [`Unit`] and [`Attenuation`], [`Source`],
 //!   [`Chip`].
 //! - **Threads.** The library has no state.
 //!
 //! ```
-//! use suongkivat::{Attenuation, Board, Count, Millivolt, Unit};
+//! use suongkivat::{Attenuation, Board, Count, Millivolt, Unit, EIGHTS};
 //! # let dump = [0; suongkivat::DUMP_WORDS];
 //! # let fields = [(1, 0, 5), (2, 32, 1), (3, 64, 7), (4, 96, 7), (5, 128, 9), (6, 160, 9)];
 //! # let map: Vec<u8> = fields.iter().flat_map(|&(id, start, count)| [id, 0, start, 0, count, 0, 0, 0]).collect();
-//! let board = Board { dump: &dump, map: &map };
+//! let board = Board { dump: &dump, lengths: &EIGHTS, map: &map };
 //! let table = board.table(Unit::ADC1, Attenuation::DB_11)?;
 //! assert_eq!(table[Count(2880)], Millivolt(2462));
 //! # Ok::<(), suongkivat::Refusal>(())
@@ -61,10 +61,16 @@ pub use session::Session;
 pub use table::Table;
 
 /// The version of the header that this crate is written to. The first number changes where a caller has to be changed.
-pub const VERSION: &str = "3.0";
+pub const VERSION: &str = "4.0";
 
-/// Words of a dump: blocks 0 to 10, eight words each.
+/// Words of a dump: blocks 0 to 10, with room for eight words each.
 pub const DUMP_WORDS: usize = 88;
+
+/// Bytes of a list of block lengths: how many words each block has, 0 to 8.
+pub const BLOCKS: usize = 11;
+
+/// The list of a chip whose blocks all have eight words.
+pub const EIGHTS: [u8; BLOCKS] = [8; BLOCKS];
 
 /// Bytes of an ESP32's map. A map is records of 8 bytes, one for each field of its chip.
 pub const ESP32_MAP_BYTES: usize = 48;

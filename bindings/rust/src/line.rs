@@ -24,11 +24,11 @@ impl LineRecord {
     /// The record of a dump's unit at an attenuation, by an ESP32 map.
     ///
     /// # Errors
-    /// [`Dump`](crate::Reason::Dump), [`Unit`](crate::Reason::Unit), those of [`check_map`](crate::check_map),
-    /// [`Underflow`](crate::Reason::Underflow).
+    /// [`Dump`](crate::Reason::Dump), [`Lengths`](crate::Reason::Lengths), [`Unit`](crate::Reason::Unit), the map's
+    /// ([`check_map`](crate::check_map)), [`Underflow`](crate::Reason::Underflow).
     #[inline]
-    pub fn decode(dump: &[u32], map: &[u8], unit: Unit, attenuation: Attenuation) -> Answer<Self> {
-        let decoded = raw::decode(dump, map, unit.0, attenuation.0);
+    pub fn decode(dump: &[u32], lengths: &[u8], map: &[u8], unit: Unit, attenuation: Attenuation) -> Answer<Self> {
+        let decoded = raw::decode(dump, lengths, map, unit.0, attenuation.0);
         decoded.refusal.or_of_map(decoded.record)
     }
 

@@ -90,46 +90,55 @@ const _: () = assert!(align_of::<SkvMillivolt>() == align_of::<u16>());
 
 #[rustfmt::skip] // a call a line or two, as in the header
 extern "C" {
-    fn skv_read_field_u8(dump: *const u32, dump_len: usize, field: SkvField) -> SkvRead;
-    fn skv_read_field_u16(dump: *const u32, dump_len: usize, field: SkvField) -> SkvRead;
-    fn skv_read_field_u32(dump: *const u32, dump_len: usize, field: SkvField) -> SkvRead;
-    fn skv_read_field_le(dump: *const u32, dump_len: usize, field: SkvField, bytes: *mut u8, bytes_len: usize) -> SkvOutcome;
+    fn skv_read_field_u8(dump: *const u32, dump_len: usize, lengths: *const u8, lengths_len: usize, field: SkvField) -> SkvRead;
+    fn skv_read_field_u16(dump: *const u32, dump_len: usize, lengths: *const u8, lengths_len: usize, field: SkvField) -> SkvRead;
+    fn skv_read_field_u32(dump: *const u32, dump_len: usize, lengths: *const u8, lengths_len: usize, field: SkvField) -> SkvRead;
+    fn skv_read_field_le(dump: *const u32, dump_len: usize, lengths: *const u8, lengths_len: usize, field: SkvField,
+        bytes: *mut u8, bytes_len: usize) -> SkvOutcome;
     fn skv_view(field_dump: *const u32, field_dump_len: usize, reference_dump: *const u32, reference_dump_len: usize,
-        board: u8, block: u8) -> SkvView;
+        lengths: *const u8, lengths_len: usize, board: u8, block: u8) -> SkvView;
 
-    fn skv_check_map(chip: u8, map: *const u8, map_len: usize) -> SkvOutcome;
+    fn skv_check_map(chip: u8, lengths: *const u8, lengths_len: usize, map: *const u8, map_len: usize) -> SkvOutcome;
 
-    fn skv_decode(dump: *const u32, dump_len: usize, map: *const u8, map_len: usize, unit: u8, attenuation: u8) -> SkvDecoded;
+    fn skv_decode(dump: *const u32, dump_len: usize, lengths: *const u8, lengths_len: usize, map: *const u8, map_len: usize,
+        unit: u8, attenuation: u8) -> SkvDecoded;
     fn skv_check_record(record: SkvLineRecord) -> SkvOutcome;
     fn skv_convert(record: SkvLineRecord, count: SkvCount) -> SkvVoltage;
     fn skv_fill(record: SkvLineRecord, first_count: SkvCount, millivolts: *mut u16, millivolts_len: usize) -> SkvOutcome;
 
-    fn skv_s2_version(dump: *const u32, dump_len: usize, map: *const u8, map_len: usize) -> SkvVersion;
-    fn skv_s2_reading_vlow(dump: *const u32, dump_len: usize, version: u8, unit: u8, attenuation: u8) -> SkvReading;
-    fn skv_s2_reading_vhigh(dump: *const u32, dump_len: usize, version: u8, unit: u8, attenuation: u8) -> SkvReading;
-    fn skv_s2_reading_vinit(dump: *const u32, dump_len: usize, version: u8, unit: u8, attenuation: u8) -> SkvReading;
+    fn skv_s2_version(dump: *const u32, dump_len: usize, lengths: *const u8, lengths_len: usize, map: *const u8,
+        map_len: usize) -> SkvVersion;
+    fn skv_s2_reading_vlow(dump: *const u32, dump_len: usize, lengths: *const u8, lengths_len: usize, version: u8,
+        unit: u8, attenuation: u8) -> SkvReading;
+    fn skv_s2_reading_vhigh(dump: *const u32, dump_len: usize, lengths: *const u8, lengths_len: usize, version: u8,
+        unit: u8, attenuation: u8) -> SkvReading;
+    fn skv_s2_reading_vinit(dump: *const u32, dump_len: usize, lengths: *const u8, lengths_len: usize, version: u8,
+        unit: u8, attenuation: u8) -> SkvReading;
     fn skv_s2_skipped_vlow(version: u8, unit: u8, attenuation: u8) -> SkvReading;
     fn skv_s2_skipped_vhigh(version: u8, unit: u8, attenuation: u8) -> SkvReading;
     fn skv_s2_skipped_vinit(version: u8, unit: u8, attenuation: u8) -> SkvReading;
-    fn skv_s2_init_code(dump: *const u32, dump_len: usize, map: *const u8, map_len: usize, unit: u8, attenuation: u8) -> SkvCode;
-    fn skv_s2_cal_code(dump: *const u32, dump_len: usize, map: *const u8, map_len: usize, unit: u8, attenuation: u8) -> SkvCode;
+    fn skv_s2_init_code(dump: *const u32, dump_len: usize, lengths: *const u8, lengths_len: usize, map: *const u8,
+        map_len: usize, unit: u8, attenuation: u8) -> SkvCode;
+    fn skv_s2_cal_code(dump: *const u32, dump_len: usize, lengths: *const u8, lengths_len: usize, map: *const u8,
+        map_len: usize, unit: u8, attenuation: u8) -> SkvCode;
     fn skv_s2_cal_mv(unit: u8, attenuation: u8) -> SkvVoltage;
-    fn skv_s2_flash_encryption(dump: *const u32, dump_len: usize, map: *const u8, map_len: usize) -> SkvFlashEncryption;
+    fn skv_s2_flash_encryption(dump: *const u32, dump_len: usize, lengths: *const u8, lengths_len: usize, map: *const u8,
+        map_len: usize) -> SkvFlashEncryption;
 
     fn skv_c6_version(minor_block_version: u8) -> u8;
-    fn skv_c6_init_code(dump: *const u32, dump_len: usize, map: *const u8, map_len: usize, minor_block_version: u8,
-        unit: u8, attenuation: u8) -> SkvCode;
-    fn skv_c6_cal_code(dump: *const u32, dump_len: usize, map: *const u8, map_len: usize, minor_block_version: u8,
-        unit: u8, attenuation: u8) -> SkvCode;
-    fn skv_c6_get_chan_compens(dump: *const u32, dump_len: usize, map: *const u8, map_len: usize,
-        unit: u8, channel: u8, attenuation: u8) -> SkvReading;
+    fn skv_c6_init_code(dump: *const u32, dump_len: usize, lengths: *const u8, lengths_len: usize, map: *const u8,
+        map_len: usize, minor_block_version: u8, unit: u8, attenuation: u8) -> SkvCode;
+    fn skv_c6_cal_code(dump: *const u32, dump_len: usize, lengths: *const u8, lengths_len: usize, map: *const u8,
+        map_len: usize, minor_block_version: u8, unit: u8, attenuation: u8) -> SkvCode;
+    fn skv_c6_get_chan_compens(dump: *const u32, dump_len: usize, lengths: *const u8, lengths_len: usize, map: *const u8,
+        map_len: usize, unit: u8, channel: u8, attenuation: u8) -> SkvReading;
     fn skv_c6_cal_mv(minor_block_version: u8, unit: u8, attenuation: u8) -> SkvVoltage;
 
     fn skv_correct(chip: u8, minor_block_version: u8, unit: u8, attenuation: u8, line_answer: SkvMillivolt) -> SkvVoltage;
 
     fn skv_next_sample(log: *const u8, log_len: usize) -> SkvNext;
     fn skv_sample(sample: SkvSample, field_dump: *const u32, field_dump_len: usize, reference_dump: *const u32,
-        reference_dump_len: usize, map: *const u8, map_len: usize) -> SkvVoltage;
+        reference_dump_len: usize, lengths: *const u8, lengths_len: usize, map: *const u8, map_len: usize) -> SkvVoltage;
 }
 
 macro_rules! calls {
@@ -146,48 +155,61 @@ macro_rules! calls {
 }
 
 calls! {
-    read_field_u8(dump: &[u32], field: SkvField) -> SkvRead = skv_read_field_u8(dump.as_ptr(), dump.len(), field);
-    read_field_u16(dump: &[u32], field: SkvField) -> SkvRead = skv_read_field_u16(dump.as_ptr(), dump.len(), field);
-    read_field_u32(dump: &[u32], field: SkvField) -> SkvRead = skv_read_field_u32(dump.as_ptr(), dump.len(), field);
-    read_field_le(dump: &[u32], field: SkvField, bytes: &mut [u8]) -> SkvOutcome =
-        skv_read_field_le(dump.as_ptr(), dump.len(), field, bytes.as_mut_ptr(), bytes.len());
-    view(field_dump: &[u32], reference_dump: &[u32], board: u8, block: u8) -> SkvView =
-        skv_view(field_dump.as_ptr(), field_dump.len(), reference_dump.as_ptr(), reference_dump.len(), board, block);
+    read_field_u8(dump: &[u32], lengths: &[u8], field: SkvField) -> SkvRead =
+        skv_read_field_u8(dump.as_ptr(), dump.len(), lengths.as_ptr(), lengths.len(), field);
+    read_field_u16(dump: &[u32], lengths: &[u8], field: SkvField) -> SkvRead =
+        skv_read_field_u16(dump.as_ptr(), dump.len(), lengths.as_ptr(), lengths.len(), field);
+    read_field_u32(dump: &[u32], lengths: &[u8], field: SkvField) -> SkvRead =
+        skv_read_field_u32(dump.as_ptr(), dump.len(), lengths.as_ptr(), lengths.len(), field);
+    read_field_le(dump: &[u32], lengths: &[u8], field: SkvField, bytes: &mut [u8]) -> SkvOutcome =
+        skv_read_field_le(dump.as_ptr(), dump.len(), lengths.as_ptr(), lengths.len(), field,
+            bytes.as_mut_ptr(), bytes.len());
+    view(field_dump: &[u32], reference_dump: &[u32], lengths: &[u8], board: u8, block: u8) -> SkvView =
+        skv_view(field_dump.as_ptr(), field_dump.len(), reference_dump.as_ptr(), reference_dump.len(),
+            lengths.as_ptr(), lengths.len(), board, block);
 
-    check_map(chip: u8, map: &[u8]) -> SkvOutcome = skv_check_map(chip, map.as_ptr(), map.len());
+    check_map(chip: u8, lengths: &[u8], map: &[u8]) -> SkvOutcome =
+        skv_check_map(chip, lengths.as_ptr(), lengths.len(), map.as_ptr(), map.len());
 
-    decode(dump: &[u32], map: &[u8], unit: u8, attenuation: u8) -> SkvDecoded =
-        skv_decode(dump.as_ptr(), dump.len(), map.as_ptr(), map.len(), unit, attenuation);
+    decode(dump: &[u32], lengths: &[u8], map: &[u8], unit: u8, attenuation: u8) -> SkvDecoded =
+        skv_decode(dump.as_ptr(), dump.len(), lengths.as_ptr(), lengths.len(), map.as_ptr(), map.len(),
+            unit, attenuation);
     check_record(record: SkvLineRecord) -> SkvOutcome = skv_check_record(record);
     convert(record: SkvLineRecord, count: SkvCount) -> SkvVoltage = skv_convert(record, count);
     fill(record: SkvLineRecord, first_count: SkvCount, millivolts: &mut [SkvMillivolt]) -> SkvOutcome =
         skv_fill(record, first_count, millivolts.as_mut_ptr().cast(), millivolts.len());
 
-    s2_version(dump: &[u32], map: &[u8]) -> SkvVersion = skv_s2_version(dump.as_ptr(), dump.len(), map.as_ptr(), map.len());
-    s2_reading_vlow(dump: &[u32], version: u8, unit: u8, attenuation: u8) -> SkvReading =
-        skv_s2_reading_vlow(dump.as_ptr(), dump.len(), version, unit, attenuation);
-    s2_reading_vhigh(dump: &[u32], version: u8, unit: u8, attenuation: u8) -> SkvReading =
-        skv_s2_reading_vhigh(dump.as_ptr(), dump.len(), version, unit, attenuation);
-    s2_reading_vinit(dump: &[u32], version: u8, unit: u8, attenuation: u8) -> SkvReading =
-        skv_s2_reading_vinit(dump.as_ptr(), dump.len(), version, unit, attenuation);
+    s2_version(dump: &[u32], lengths: &[u8], map: &[u8]) -> SkvVersion =
+        skv_s2_version(dump.as_ptr(), dump.len(), lengths.as_ptr(), lengths.len(), map.as_ptr(), map.len());
+    s2_reading_vlow(dump: &[u32], lengths: &[u8], version: u8, unit: u8, attenuation: u8) -> SkvReading =
+        skv_s2_reading_vlow(dump.as_ptr(), dump.len(), lengths.as_ptr(), lengths.len(), version, unit, attenuation);
+    s2_reading_vhigh(dump: &[u32], lengths: &[u8], version: u8, unit: u8, attenuation: u8) -> SkvReading =
+        skv_s2_reading_vhigh(dump.as_ptr(), dump.len(), lengths.as_ptr(), lengths.len(), version, unit, attenuation);
+    s2_reading_vinit(dump: &[u32], lengths: &[u8], version: u8, unit: u8, attenuation: u8) -> SkvReading =
+        skv_s2_reading_vinit(dump.as_ptr(), dump.len(), lengths.as_ptr(), lengths.len(), version, unit, attenuation);
     s2_skipped_vlow(version: u8, unit: u8, attenuation: u8) -> SkvReading = skv_s2_skipped_vlow(version, unit, attenuation);
     s2_skipped_vhigh(version: u8, unit: u8, attenuation: u8) -> SkvReading = skv_s2_skipped_vhigh(version, unit, attenuation);
     s2_skipped_vinit(version: u8, unit: u8, attenuation: u8) -> SkvReading = skv_s2_skipped_vinit(version, unit, attenuation);
-    s2_init_code(dump: &[u32], map: &[u8], unit: u8, attenuation: u8) -> SkvCode =
-        skv_s2_init_code(dump.as_ptr(), dump.len(), map.as_ptr(), map.len(), unit, attenuation);
-    s2_cal_code(dump: &[u32], map: &[u8], unit: u8, attenuation: u8) -> SkvCode =
-        skv_s2_cal_code(dump.as_ptr(), dump.len(), map.as_ptr(), map.len(), unit, attenuation);
+    s2_init_code(dump: &[u32], lengths: &[u8], map: &[u8], unit: u8, attenuation: u8) -> SkvCode =
+        skv_s2_init_code(dump.as_ptr(), dump.len(), lengths.as_ptr(), lengths.len(), map.as_ptr(), map.len(),
+            unit, attenuation);
+    s2_cal_code(dump: &[u32], lengths: &[u8], map: &[u8], unit: u8, attenuation: u8) -> SkvCode =
+        skv_s2_cal_code(dump.as_ptr(), dump.len(), lengths.as_ptr(), lengths.len(), map.as_ptr(), map.len(),
+            unit, attenuation);
     s2_cal_mv(unit: u8, attenuation: u8) -> SkvVoltage = skv_s2_cal_mv(unit, attenuation);
-    s2_flash_encryption(dump: &[u32], map: &[u8]) -> SkvFlashEncryption =
-        skv_s2_flash_encryption(dump.as_ptr(), dump.len(), map.as_ptr(), map.len());
+    s2_flash_encryption(dump: &[u32], lengths: &[u8], map: &[u8]) -> SkvFlashEncryption =
+        skv_s2_flash_encryption(dump.as_ptr(), dump.len(), lengths.as_ptr(), lengths.len(), map.as_ptr(), map.len());
 
     c6_version(minor_block_version: u8) -> u8 = skv_c6_version(minor_block_version);
-    c6_init_code(dump: &[u32], map: &[u8], minor_block_version: u8, unit: u8, attenuation: u8) -> SkvCode =
-        skv_c6_init_code(dump.as_ptr(), dump.len(), map.as_ptr(), map.len(), minor_block_version, unit, attenuation);
-    c6_cal_code(dump: &[u32], map: &[u8], minor_block_version: u8, unit: u8, attenuation: u8) -> SkvCode =
-        skv_c6_cal_code(dump.as_ptr(), dump.len(), map.as_ptr(), map.len(), minor_block_version, unit, attenuation);
-    c6_get_chan_compens(dump: &[u32], map: &[u8], unit: u8, channel: u8, attenuation: u8) -> SkvReading =
-        skv_c6_get_chan_compens(dump.as_ptr(), dump.len(), map.as_ptr(), map.len(), unit, channel, attenuation);
+    c6_init_code(dump: &[u32], lengths: &[u8], map: &[u8], minor_block_version: u8, unit: u8, attenuation: u8) -> SkvCode =
+        skv_c6_init_code(dump.as_ptr(), dump.len(), lengths.as_ptr(), lengths.len(), map.as_ptr(), map.len(),
+            minor_block_version, unit, attenuation);
+    c6_cal_code(dump: &[u32], lengths: &[u8], map: &[u8], minor_block_version: u8, unit: u8, attenuation: u8) -> SkvCode =
+        skv_c6_cal_code(dump.as_ptr(), dump.len(), lengths.as_ptr(), lengths.len(), map.as_ptr(), map.len(),
+            minor_block_version, unit, attenuation);
+    c6_get_chan_compens(dump: &[u32], lengths: &[u8], map: &[u8], unit: u8, channel: u8, attenuation: u8) -> SkvReading =
+        skv_c6_get_chan_compens(dump.as_ptr(), dump.len(), lengths.as_ptr(), lengths.len(), map.as_ptr(), map.len(),
+            unit, channel, attenuation);
     c6_cal_mv(minor_block_version: u8, unit: u8, attenuation: u8) -> SkvVoltage =
         skv_c6_cal_mv(minor_block_version, unit, attenuation);
 
@@ -195,8 +217,7 @@ calls! {
         skv_correct(chip, minor_block_version, unit, attenuation, line_answer);
 
     next_sample(log: &[u8]) -> SkvNext = skv_next_sample(log.as_ptr(), log.len());
-    sample(sample: SkvSample, field_dump: &[u32], reference_dump: &[u32], map: &[u8]) -> SkvVoltage = {
-        let (field_len, reference_len) = (field_dump.len(), reference_dump.len());
-        skv_sample(sample, field_dump.as_ptr(), field_len, reference_dump.as_ptr(), reference_len, map.as_ptr(), map.len())
-    };
+    sample(sample: SkvSample, field_dump: &[u32], reference_dump: &[u32], lengths: &[u8], map: &[u8]) -> SkvVoltage =
+        skv_sample(sample, field_dump.as_ptr(), field_dump.len(), reference_dump.as_ptr(), reference_dump.len(),
+            lengths.as_ptr(), lengths.len(), map.as_ptr(), map.len());
 }

@@ -14,6 +14,7 @@ pub struct Refusal {
     pub reason: Reason,
     /// The number of the map's first bad record, from 0: of a call that takes a map, at [`MapId`](Reason::MapId),
     /// [`MapByte`](Reason::MapByte), [`Block`](Reason::Block), [`BitRange`](Reason::BitRange) and [`BitCount`](Reason::BitCount).
+    /// Where an S2's code is refused for what it reads past block 2's own length, that is no record's, and there is none.
     pub record: Option<u8>,
     /// Where in that record the first byte stands that should be zero and isn't, 5, 6 or 7: at [`MapByte`](Reason::MapByte).
     pub place: Option<u8>,
@@ -74,7 +75,8 @@ reasons! {
     2 Map: "the map's length isn't its chip's", "take the map of this chip, and see that it is whole";
     3 MapId: "a map record's id isn't that of its place", "mend that record: ids in order, each once; look for a shifted byte";
     4 Block: "block above 10", "mend the block";
-    5 BitRange: "bit start above 255, or start + count above 256", "mend bit start or count: a field stays inside its block";
+    5 BitRange: "bit start above 255, or start + count past the block's own length, 32 bits a word",
+        "mend bit start or count: a field stays inside its block; see that the list of block lengths is this chip's";
     6 BitCount: "a map record's bit count isn't its id's", "mend the count by the table of ids";
     7 Unit: "unit above 1 or attenuation above 3", "ask for a unit and an attenuation that exist";
     8 Raw: "count above 4095", "distrust the log: no converter of 12 bits gives it";
@@ -90,6 +92,8 @@ reasons! {
     16 Log: "log ends inside a record", "the log was cut off; what came before it stands";
     18 MapByte: "a byte among a map record's last three isn't zero",
         "mend that byte: it is zero in every record; look for a shifted byte";
+    20 Lengths: "the list of block lengths isn't eleven, or one of them is above 8",
+        "take this chip's list of block lengths, whole: eleven bytes, each 0 to 8";
 }
 
 impl Reason {

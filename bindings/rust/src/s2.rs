@@ -1,13 +1,14 @@
 //! The S2: its calibration's version, readings and codes; flash encryption.
-use crate::{raw, Answer, Attenuation, Millivolt, Unit};
+use crate::raw::{self, SkvCode};
+use crate::{check_map, Answer, Attenuation, Chip, Millivolt, Reason, Refusal, Unit};
 
 /// The calibration's version.
 ///
 /// # Errors
-/// [`Dump`](crate::Reason::Dump), those of [`check_map`](crate::check_map).
+/// [`Dump`](Reason::Dump), [`Lengths`](Reason::Lengths), the map's ([`check_map`]).
 #[inline]
-pub fn version(dump: &[u32], map: &[u8]) -> Answer<u8> {
-    let answer = raw::s2_version(dump, map);
+pub fn version(dump: &[u32], lengths: &[u8], map: &[u8]) -> Answer<u8> {
+    let answer = raw::s2_version(dump, lengths, map);
     answer.refusal.or_of_map(answer.version)
 }
 
@@ -17,17 +18,18 @@ macro_rules! readings {
             #[doc = concat!("The reading of the ", $what, " by a version; 0 where that version hasn't one.")]
             ///
             /// # Errors
-            /// [`Dump`](crate::Reason::Dump), [`Unit`](crate::Reason::Unit).
+            /// [`Dump`](Reason::Dump), [`Lengths`](Reason::Lengths), [`Unit`](Reason::Unit), [`BitRange`](Reason::BitRange) where a
+            /// field that it reads lies past block 2's own length.
             #[inline]
-            pub fn $reading(dump: &[u32], version: u8, unit: Unit, attenuation: Attenuation) -> Answer<i32> {
-                let answer = raw::$raw_reading(dump, version, unit.0, attenuation.0);
+            pub fn $reading(dump: &[u32], lengths: &[u8], version: u8, unit: Unit, attenuation: Attenuation) -> Answer<i32> {
+                let answer = raw::$raw_reading(dump, lengths, version, unit.0, attenuation.0);
                 answer.refusal.or(answer.value)
             }
 
             #[doc = concat!("The reading of the ", $what, " with the eFuse skipped.")]
             ///
             /// # Errors
-            /// [`Unit`](crate::Reason::Unit).
+            /// [`Unit`](Reason::Unit).
             #[inline]
             pub fn $skipped(version: u8, unit: Unit, attenuation: Attenuation) -> Answer<i32> {
                 let answer = raw::$raw_skipped(version, unit.0, attenuation.0);
@@ -46,12 +48,11 @@ readings! {
 /// The initial code.
 ///
 /// # Errors
-/// [`Dump`](crate::Reason::Dump), [`Unit`](crate::Reason::Unit), those of [`check_map`](crate::check_map),
-/// [`NoCode`](crate::Reason::NoCode).
+/// [`Dump`](Reason::Dump), [`Lengths`](Reason::Lengths), [`Unit`](Reason::Unit), the map's ([`check_map`]),
+/// [`NoCode`](Reason::NoCode), [`BitRange`](Reason::BitRange) as of a reading, which tells no record.
 #[inline]
-pub fn init_code(dump: &[u32], map: &[u8], unit: Unit, attenuation: Attenuation) -> Answer<u16> {
-    let answer = raw::s2_init_code(dump, map, unit.0, attenuation.0);
-    answer.refusal.or_of_map(answer.code)
+pub fn init_code(dump: &[u32], lengths: &[u8], map: &[u8], unit: Unit, attenuation: Attenuation) -> Answer<u16> {
+    code(raw::s2_init_code(dump, lengths, map, unit.0, attenuation.0), lengths, map)
 }
 
 /// The code at the reference voltage, [`cal_mv`].
@@ -59,15 +60,33 @@ pub fn init_code(dump: &[u32], map: &[u8], unit: Unit, attenuation: Attenuation)
 /// # Errors
 /// Those of [`init_code`].
 #[inline]
-pub fn cal_code(dump: &[u32], map: &[u8], unit: Unit, attenuation: Attenuation) -> Answer<u16> {
-    let answer = raw::s2_cal_code(dump, map, unit.0, attenuation.0);
-    answer.refusal.or_of_map(answer.code)
+pub fn cal_code(dump: &[u32], lengths: &[u8], map: &[u8], unit: Unit, attenuation: Attenuation) -> Answer<u16> {
+    code(raw::s2_cal_code(dump, lengths, map, unit.0, attenuation.0), lengths, map)
+}
+
+/// A code, or why there is none.
+#[inline]
+fn code(answer: SkvCode, lengths: &[u8], map: &[u8]) -> Answer<u16> {
+    answer.refusal.or_of_map(answer.code).map_err(|refusal| of_map_or_reading(refusal, lengths, map))
+}
+
+/// C's 5 of the map's record 0 and its 5 of a reading, which is no record's, are the same three bytes. The map is checked before
+/// anything is read: where it is good, a reading was meant.
+#[cold]
+#[inline(never)]
+fn of_map_or_reading(refusal: Refusal, lengths: &[u8], map: &[u8]) -> Refusal {
+    let is_of_a_reading = refusal.reason == Reason::BitRange && check_map(Chip::S2, lengths, map).is_ok();
+    if is_of_a_reading {
+        refusal.reason.into()
+    } else {
+        refusal
+    }
 }
 
 /// The reference voltage of an attenuation.
 ///
 /// # Errors
-/// [`Unit`](crate::Reason::Unit).
+/// [`Unit`](Reason::Unit).
 #[inline]
 pub fn cal_mv(unit: Unit, attenuation: Attenuation) -> Answer<Millivolt> {
     let answer = raw::s2_cal_mv(unit.0, attenuation.0);
@@ -77,9 +96,9 @@ pub fn cal_mv(unit: Unit, attenuation: Attenuation) -> Answer<Millivolt> {
 /// Whether flash encryption is on.
 ///
 /// # Errors
-/// [`Dump`](crate::Reason::Dump), those of [`check_map`](crate::check_map).
+/// Those of [`version`].
 #[inline]
-pub fn flash_encryption(dump: &[u32], map: &[u8]) -> Answer<bool> {
-    let answer = raw::s2_flash_encryption(dump, map);
+pub fn flash_encryption(dump: &[u32], lengths: &[u8], map: &[u8]) -> Answer<bool> {
+    let answer = raw::s2_flash_encryption(dump, lengths, map);
     answer.refusal.or_of_map(answer.on != 0)
 }

@@ -4,7 +4,7 @@ use super::inputs::{c6_map, esp32_map, refused, s2_map, ONES, ZEROS};
 use crate::*;
 
 fn record() -> LineRecord {
-    LineRecord::decode(&ZEROS, &esp32_map(), Unit::ADC1, Attenuation::DB_11).unwrap()
+    LineRecord::decode(&ZEROS, &EIGHTS, &esp32_map(), Unit::ADC1, Attenuation::DB_11).unwrap()
 }
 
 /// The same by two points, so that its parts may be any of their ranges.
@@ -28,7 +28,7 @@ fn a_record_says_where_it_came_from() {
     two_points[1..6].fill(1); // the reserve bit, and no code is zero
     for (dump, source) in [(ZEROS, Source::VREF), (two_points, Source::TWO_POINT)] {
         for (unit, attenuation) in (0..8).map(|k| (Unit(k / 4), Attenuation(k % 4))) {
-            let record = LineRecord::decode(&dump, &map, unit, attenuation).unwrap();
+            let record = LineRecord::decode(&dump, &EIGHTS, &map, unit, attenuation).unwrap();
             assert_eq!((record.unit, record.attenuation, record.source), (unit, attenuation, source));
             assert_eq!((record.check(), record.uses_lookup()), (Ok(()), attenuation == Attenuation::DB_11));
         }
@@ -87,7 +87,8 @@ fn by_vref_there_is_one_line() {
 #[test]
 fn decoding_refuses_in_order() {
     let map = esp32_map();
-    let decode_at = |dump: &[u32], map: &[u8], unit, attenuation| LineRecord::decode(dump, map, Unit(unit), attenuation);
+    let decode_at =
+        |dump: &[u32], map: &[u8], unit, attenuation| LineRecord::decode(dump, &EIGHTS, map, Unit(unit), attenuation);
     let decode = |dump: &[u32], map: &[u8], unit| decode_at(dump, map, unit, Attenuation::DB_0);
     assert_eq!(decode(&ZEROS[1..], &map[1..], 2), refused(Reason::Dump));
     assert_eq!(decode(&ZEROS, &map[1..], 2), refused(Reason::Unit));
@@ -114,7 +115,7 @@ fn a_fill_writes_its_part_alone() {
 #[test]
 fn a_table_holds_the_answers() {
     let map = esp32_map();
-    let board = Board { dump: &ZEROS, map: &map };
+    let board = Board { dump: &ZEROS, lengths: &EIGHTS, map: &map };
     let mut table = board.table(Unit::ADC1, Attenuation::DB_11).unwrap();
     for raw in 0..=u16::MAX {
         assert_eq!(table.get(Count(raw)), record().convert(Count(raw)));
@@ -140,30 +141,31 @@ fn fields() {
     dump[8] = 0xF000_0000;
     dump[9] = 0x0007_FFFF;
     let field = Field { block: 1, bit_start: 28, bit_count: 23 };
-    assert_eq!((field.read_u8(&dump), field.read_u16(&dump), field.read_u32(&dump)), (Ok(0xFF), Ok(0xFFFF), Ok(0x7F_FFFF)));
+    assert_eq!((field.read_u8(&dump, &EIGHTS), field.read_u16(&dump, &EIGHTS)), (Ok(0xFF), Ok(0xFFFF)));
+    assert_eq!(field.read_u32(&dump, &EIGHTS), Ok(0x7F_FFFF));
     let mut bytes = [9; 6];
-    assert_eq!(field.read_le(&dump, &mut bytes[..5]), Ok(()));
+    assert_eq!(field.read_le(&dump, &EIGHTS, &mut bytes[..5]), Ok(()));
     assert_eq!(bytes, [0xFF, 0xFF, 0x7F, 0, 0, 9]);
-    assert_eq!(field.read_le(&dump[1..], &mut bytes), refused(Reason::Dump));
+    assert_eq!(field.read_le(&dump[1..], &EIGHTS, &mut bytes), refused(Reason::Dump));
     assert_eq!(bytes, [0xFF, 0xFF, 0x7F, 0, 0, 9]);
-    assert_eq!(Field { block: 11, ..field }.read_u8(&dump), refused(Reason::Block));
-    assert_eq!(Field { bit_start: 234, ..field }.read_u16(&dump), refused(Reason::BitRange));
-    assert_eq!(field.read_u32(&[]), refused(Reason::Dump));
+    assert_eq!(Field { block: 11, ..field }.read_u8(&dump, &EIGHTS), refused(Reason::Block));
+    assert_eq!(Field { bit_start: 234, ..field }.read_u16(&dump, &EIGHTS), refused(Reason::BitRange));
+    assert_eq!(field.read_u32(&[], &EIGHTS), refused(Reason::Dump));
 }
 
 #[test]
 fn maps() {
     assert_eq!((esp32_map().len(), s2_map().len(), c6_map().len()), (ESP32_MAP_BYTES, S2_MAP_BYTES, C6_MAP_BYTES));
     for (chip, good) in [(Chip::ESP32, esp32_map()), (Chip::S2, s2_map()), (Chip::C6, c6_map())] {
-        assert_eq!(check_map(chip, &good), Ok(()));
-        assert_eq!(check_map(Chip::C3, &good), refused(Reason::Map));
+        assert_eq!(check_map(chip, &EIGHTS, &good), Ok(()));
+        assert_eq!(check_map(Chip::C3, &EIGHTS, &good), refused(Reason::Map));
     }
-    assert_eq!(check_map(Chip::ESP32, &[]), refused(Reason::Map));
+    assert_eq!(check_map(Chip::ESP32, &EIGHTS, &[]), refused(Reason::Map));
 }
 
 #[test]
 fn a_view_is_a_part_of_its_dump() {
-    let session = Session { field: &ZEROS, reference: &ONES };
+    let session = Session { field: &ZEROS, reference: &ONES, lengths: &EIGHTS };
     let (field, reference) = (session.view(0, 3).unwrap(), session.view(1, 10).unwrap());
     assert_eq!(field.as_ptr_range(), session.field[24..32].as_ptr_range());
     assert_eq!(reference.as_ptr_range(), session.reference[80..].as_ptr_range());
@@ -174,9 +176,9 @@ fn a_view_is_a_part_of_its_dump() {
 #[test]
 fn samples_go_by_their_board() {
     let map = esp32_map();
-    let session = Session { field: &ZEROS, reference: &ONES };
+    let session = Session { field: &ZEROS, reference: &ONES, lengths: &EIGHTS };
     let sample = Sample { raw: Count(2880), board: 0, last: 3 };
-    let other = LineRecord::decode(&ONES, &map, Unit::ADC1, Attenuation::DB_11).unwrap();
+    let other = LineRecord::decode(&ONES, &EIGHTS, &map, Unit::ADC1, Attenuation::DB_11).unwrap();
     assert_eq!(session.sample(&map, sample), Ok(Millivolt(2462)));
     assert_eq!(session.sample(&map, Sample { board: 1, ..sample }), other.convert(Count(2880)));
     assert_eq!(session.sample(&map, Sample { last: 8, ..sample }), refused(Reason::Board));
@@ -214,12 +216,12 @@ fn curves() {
 #[test]
 fn the_s2() {
     let (unit, other) = (Unit::ADC1, Unit::ADC2);
-    assert_eq!(s2::reading_vhigh(&ZEROS, 2, unit, Attenuation::DB_0), Ok(6110));
-    assert_eq!(s2::reading_vinit(&ZEROS, 2, unit, Attenuation::DB_11), Ok(1685));
-    assert_eq!(s2::reading_vinit(&ONES, 2, unit, Attenuation::DB_11), Ok(1277));
-    assert_eq!(s2::reading_vhigh(&ONES, 2, other, Attenuation::DB_11), Ok(5077));
-    assert_eq!(s2::reading_vlow(&ZEROS, 1, unit, Attenuation::DB_0), Ok(2231));
-    assert_eq!(s2::reading_vlow(&[], 1, Unit(2), Attenuation::DB_0), refused(Reason::Dump));
+    assert_eq!(s2::reading_vhigh(&ZEROS, &EIGHTS, 2, unit, Attenuation::DB_0), Ok(6110));
+    assert_eq!(s2::reading_vinit(&ZEROS, &EIGHTS, 2, unit, Attenuation::DB_11), Ok(1685));
+    assert_eq!(s2::reading_vinit(&ONES, &EIGHTS, 2, unit, Attenuation::DB_11), Ok(1277));
+    assert_eq!(s2::reading_vhigh(&ONES, &EIGHTS, 2, other, Attenuation::DB_11), Ok(5077));
+    assert_eq!(s2::reading_vlow(&ZEROS, &EIGHTS, 1, unit, Attenuation::DB_0), Ok(2231));
+    assert_eq!(s2::reading_vlow(&[], &EIGHTS, 1, Unit(2), Attenuation::DB_0), refused(Reason::Dump));
     assert_eq!(s2::skipped_vlow(1, other, Attenuation::DB_11), Ok(723));
     assert_eq!(s2::skipped_vhigh(2, unit, Attenuation::DB_0), Ok(6110));
     assert_eq!(s2::skipped_vinit(2, other, Attenuation::DB_11), Ok(1719));
@@ -230,15 +232,16 @@ fn the_s2() {
     );
     let map = s2_map();
     let mut dump = ZEROS;
-    let code =
-        |dump: &[u32]| (s2::init_code(dump, &map, unit, Attenuation::DB_11), s2::cal_code(dump, &map, unit, Attenuation::DB_0));
+    let init_code = |dump: &[u32]| s2::init_code(dump, &EIGHTS, &map, unit, Attenuation::DB_11);
+    let code = |dump: &[u32]| (init_code(dump), s2::cal_code(dump, &EIGHTS, &map, unit, Attenuation::DB_0));
     assert_eq!(code(&dump), (refused(Reason::NoCode), refused(Reason::NoCode)));
     dump[0] = 2;
-    assert_eq!((s2::version(&dump, &map), code(&dump)), (Ok(2), (Ok(1685), Ok(6110))));
-    assert_eq!(s2::flash_encryption(&dump, &map), Ok(false));
+    assert_eq!((s2::version(&dump, &EIGHTS, &map), code(&dump)), (Ok(2), (Ok(1685), Ok(6110))));
+    assert_eq!(s2::flash_encryption(&dump, &EIGHTS, &map), Ok(false));
     dump[1] = 7;
-    assert_eq!(s2::flash_encryption(&dump, &map), Ok(true));
-    assert_eq!((s2::version(&dump, &map[1..]), s2::flash_encryption(&dump, &[])), (refused(Reason::Map), refused(Reason::Map)));
+    assert_eq!(s2::flash_encryption(&dump, &EIGHTS, &map), Ok(true));
+    assert_eq!(s2::version(&dump, &EIGHTS, &map[1..]), refused(Reason::Map));
+    assert_eq!(s2::flash_encryption(&dump, &EIGHTS, &[]), refused(Reason::Map));
 }
 
 #[test]
@@ -250,15 +253,15 @@ fn the_c6() {
     dump[4] = 0x3FF; // id 13
     dump[14] = 0xF; // id 23
     assert_eq!([0, 1, 2, 255].map(c6::version), [0, 1, 2, 2]);
-    assert_eq!(c6::init_code(&dump, &map, 1, unit, Attenuation::DB_0), Ok(34367));
-    assert_eq!(c6::init_code(&dump, &map, 0, unit, Attenuation::DB_0), refused(Reason::NoCode));
-    assert_eq!(c6::cal_code(&dump, &map, 2, unit, Attenuation::DB_6), Ok(2900));
-    assert_eq!(c6::cal_code(&dump, &map, 1, unit, Attenuation::DB_0), Ok(989));
-    assert_eq!(c6::cal_code(&dump, &map[1..], 0, unit, Attenuation::DB_0), refused(Reason::Map));
-    assert_eq!(c6::get_chan_compens(&dump, &map, unit, 255, Attenuation::DB_0), Ok(-28));
-    assert_eq!(c6::get_chan_compens(&dump, &map, unit, 6, Attenuation::DB_11), Ok(-7));
-    assert_eq!(c6::get_chan_compens(&dump, &map, unit, 5, Attenuation::DB_11), Ok(0));
-    assert_eq!(c6::get_chan_compens(&dump, &map, unit, 5, Attenuation(4)), refused(Reason::Unit));
+    assert_eq!(c6::init_code(&dump, &EIGHTS, &map, 1, unit, Attenuation::DB_0), Ok(34367));
+    assert_eq!(c6::init_code(&dump, &EIGHTS, &map, 0, unit, Attenuation::DB_0), refused(Reason::NoCode));
+    assert_eq!(c6::cal_code(&dump, &EIGHTS, &map, 2, unit, Attenuation::DB_6), Ok(2900));
+    assert_eq!(c6::cal_code(&dump, &EIGHTS, &map, 1, unit, Attenuation::DB_0), Ok(989));
+    assert_eq!(c6::cal_code(&dump, &EIGHTS, &map[1..], 0, unit, Attenuation::DB_0), refused(Reason::Map));
+    assert_eq!(c6::get_chan_compens(&dump, &EIGHTS, &map, unit, 255, Attenuation::DB_0), Ok(-28));
+    assert_eq!(c6::get_chan_compens(&dump, &EIGHTS, &map, unit, 6, Attenuation::DB_11), Ok(-7));
+    assert_eq!(c6::get_chan_compens(&dump, &EIGHTS, &map, unit, 5, Attenuation::DB_11), Ok(0));
+    assert_eq!(c6::get_chan_compens(&dump, &EIGHTS, &map, unit, 5, Attenuation(4)), refused(Reason::Unit));
     assert_eq!([1, 2].map(|minor| c6::cal_mv(minor, unit, Attenuation::DB_6)), [Ok(Millivolt(750)), Ok(Millivolt(1500))]);
     assert_eq!(c6::cal_mv(1, Unit(2), Attenuation::DB_6), refused(Reason::Unit));
 }

@@ -1,6 +1,9 @@
 //! Nothing of include/suongkivat.h is forgotten or declared otherwise: the header's text, written as Rust, is the text of raw.rs; its
 //! numbers and words are the crate's.
-use crate::{Chip, Reason, Source, C6_MAP_BYTES, COUNTS, DUMP_WORDS, ESP32_MAP_BYTES, S2_MAP_BYTES, SAMPLE_BYTES, VERSION};
+use crate::{
+    Chip, Reason, Source, BLOCKS, C6_MAP_BYTES, COUNTS, DUMP_WORDS, EIGHTS, ESP32_MAP_BYTES, S2_MAP_BYTES, SAMPLE_BYTES,
+    VERSION,
+};
 
 const HEADER: &str = include_str!("../../../../include/suongkivat.h");
 const RULES: &str = include_str!("../../../../docs/RULES.md");
@@ -180,6 +183,7 @@ fn chips_sources_and_lengths_are_the_headers() {
     let mut ours: Vec<_> = Chip::ALL.iter().map(|(name, chip)| (format!("SKV_{name}"), usize::from(chip.0))).collect();
     let lengths = [
         ("SKV_DUMP_WORDS", DUMP_WORDS),
+        ("SKV_BLOCKS", BLOCKS),
         ("SKV_ESP32_MAP_BYTES", ESP32_MAP_BYTES),
         ("SKV_S2_MAP_BYTES", S2_MAP_BYTES),
         ("SKV_C6_MAP_BYTES", C6_MAP_BYTES),
@@ -195,6 +199,11 @@ fn chips_sources_and_lengths_are_the_headers() {
     let mut header: Vec<_> = all.filter(|(name, _)| !refusals.contains(name)).collect();
     header.sort();
     assert_eq!(ours, header);
+}
+
+#[test]
+fn eleven_eights_are_the_headers() {
+    assert_eq!(between(HEADER, "#define SKV_EIGHTS {", "}"), [EIGHTS.map(|eight| eight.to_string()).join(", ")]);
 }
 
 #[test]

@@ -9,6 +9,7 @@ const UNIT: Unit = Unit::ADC1;
 const DB: Attenuation = Attenuation::DB_11;
 const SAMPLE: Sample = Sample { raw: Count(0), board: 1, last: 7 };
 const RECORD: usize = 8;
+const SESSION: Session = Session { field: &ZEROS, reference: &ONES, lengths: &EIGHTS };
 
 /// A call that takes a map: its name, a good map, and what it and C tell of another in its place.
 type OnMap = (&'static str, Vec<u8>, fn(&[u8]) -> Answer<()>, fn(&[u8]) -> SkvRefusal);
@@ -18,32 +19,32 @@ type OnMap = (&'static str, Vec<u8>, fn(&[u8]) -> Answer<()>, fn(&[u8]) -> SkvRe
 fn calls_on_a_map() -> Vec<OnMap> {
     let (esp32, s2, c6) = (esp32_map(), s2_map(), c6_map());
     vec![
-        ("check_map of an ESP32", esp32.clone(), |map| check_map(Chip::ESP32, map),
-            |map| raw::check_map(Chip::ESP32.0, map).refusal),
-        ("check_map of an S2", s2.clone(), |map| check_map(Chip::S2, map),
-            |map| raw::check_map(Chip::S2.0, map).refusal),
-        ("check_map of a C6", c6.clone(), |map| check_map(Chip::C6, map),
-            |map| raw::check_map(Chip::C6.0, map).refusal),
-        ("decode", esp32.clone(), |map| LineRecord::decode(&ZEROS, map, UNIT, DB).map(|_| ()),
-            |map| raw::decode(&ZEROS, map, UNIT.0, DB.0).refusal),
-        ("a board's table", esp32.clone(), |map| Board { dump: &ZEROS, map }.table(UNIT, DB).map(|_| ()),
-            |map| raw::decode(&ZEROS, map, UNIT.0, DB.0).refusal),
-        ("sample", esp32, |map| Session { field: &ZEROS, reference: &ONES }.sample(map, SAMPLE).map(|_| ()),
-            |map| raw::sample(SAMPLE, &ZEROS, &ONES, map).refusal),
-        ("s2::version", s2.clone(), |map| s2::version(&ZEROS, map).map(|_| ()),
-            |map| raw::s2_version(&ZEROS, map).refusal),
-        ("s2::flash_encryption", s2.clone(), |map| s2::flash_encryption(&ZEROS, map).map(|_| ()),
-            |map| raw::s2_flash_encryption(&ZEROS, map).refusal),
-        ("s2::init_code", s2.clone(), |map| s2::init_code(&ZEROS, map, UNIT, DB).map(|_| ()),
-            |map| raw::s2_init_code(&ZEROS, map, UNIT.0, DB.0).refusal),
-        ("s2::cal_code", s2, |map| s2::cal_code(&ZEROS, map, UNIT, DB).map(|_| ()),
-            |map| raw::s2_cal_code(&ZEROS, map, UNIT.0, DB.0).refusal),
-        ("c6::init_code", c6.clone(), |map| c6::init_code(&ZEROS, map, 0, UNIT, DB).map(|_| ()),
-            |map| raw::c6_init_code(&ZEROS, map, 0, UNIT.0, DB.0).refusal),
-        ("c6::cal_code", c6.clone(), |map| c6::cal_code(&ZEROS, map, 0, UNIT, DB).map(|_| ()),
-            |map| raw::c6_cal_code(&ZEROS, map, 0, UNIT.0, DB.0).refusal),
-        ("c6::get_chan_compens", c6, |map| c6::get_chan_compens(&ZEROS, map, UNIT, 6, DB).map(|_| ()),
-            |map| raw::c6_get_chan_compens(&ZEROS, map, UNIT.0, 6, DB.0).refusal),
+        ("check_map of an ESP32", esp32.clone(), |map| check_map(Chip::ESP32, &EIGHTS, map),
+            |map| raw::check_map(Chip::ESP32.0, &EIGHTS, map).refusal),
+        ("check_map of an S2", s2.clone(), |map| check_map(Chip::S2, &EIGHTS, map),
+            |map| raw::check_map(Chip::S2.0, &EIGHTS, map).refusal),
+        ("check_map of a C6", c6.clone(), |map| check_map(Chip::C6, &EIGHTS, map),
+            |map| raw::check_map(Chip::C6.0, &EIGHTS, map).refusal),
+        ("decode", esp32.clone(), |map| LineRecord::decode(&ZEROS, &EIGHTS, map, UNIT, DB).map(|_| ()),
+            |map| raw::decode(&ZEROS, &EIGHTS, map, UNIT.0, DB.0).refusal),
+        ("a board's table", esp32.clone(), |map| Board { dump: &ZEROS, lengths: &EIGHTS, map }.table(UNIT, DB).map(|_| ()),
+            |map| raw::decode(&ZEROS, &EIGHTS, map, UNIT.0, DB.0).refusal),
+        ("sample", esp32, |map| SESSION.sample(map, SAMPLE).map(|_| ()),
+            |map| raw::sample(SAMPLE, &ZEROS, &ONES, &EIGHTS, map).refusal),
+        ("s2::version", s2.clone(), |map| s2::version(&ZEROS, &EIGHTS, map).map(|_| ()),
+            |map| raw::s2_version(&ZEROS, &EIGHTS, map).refusal),
+        ("s2::flash_encryption", s2.clone(), |map| s2::flash_encryption(&ZEROS, &EIGHTS, map).map(|_| ()),
+            |map| raw::s2_flash_encryption(&ZEROS, &EIGHTS, map).refusal),
+        ("s2::init_code", s2.clone(), |map| s2::init_code(&ZEROS, &EIGHTS, map, UNIT, DB).map(|_| ()),
+            |map| raw::s2_init_code(&ZEROS, &EIGHTS, map, UNIT.0, DB.0).refusal),
+        ("s2::cal_code", s2, |map| s2::cal_code(&ZEROS, &EIGHTS, map, UNIT, DB).map(|_| ()),
+            |map| raw::s2_cal_code(&ZEROS, &EIGHTS, map, UNIT.0, DB.0).refusal),
+        ("c6::init_code", c6.clone(), |map| c6::init_code(&ZEROS, &EIGHTS, map, 0, UNIT, DB).map(|_| ()),
+            |map| raw::c6_init_code(&ZEROS, &EIGHTS, map, 0, UNIT.0, DB.0).refusal),
+        ("c6::cal_code", c6.clone(), |map| c6::cal_code(&ZEROS, &EIGHTS, map, 0, UNIT, DB).map(|_| ()),
+            |map| raw::c6_cal_code(&ZEROS, &EIGHTS, map, 0, UNIT.0, DB.0).refusal),
+        ("c6::get_chan_compens", c6, |map| c6::get_chan_compens(&ZEROS, &EIGHTS, map, UNIT, 6, DB).map(|_| ()),
+            |map| raw::c6_get_chan_compens(&ZEROS, &EIGHTS, map, UNIT.0, 6, DB.0).refusal),
     ]
 }
 
@@ -83,7 +84,7 @@ fn every_call_with_a_map_tells_the_bad_record() {
 #[test]
 fn the_first_bad_record_and_the_first_stray_byte_are_told() {
     let told = |bytes: &[(usize, usize, u8)]| {
-        let refusal = check_map(Chip::ESP32, &with(&esp32_map(), bytes)).unwrap_err();
+        let refusal = check_map(Chip::ESP32, &EIGHTS, &with(&esp32_map(), bytes)).unwrap_err();
         (refusal.number(), refusal.record, refusal.place)
     };
     assert_eq!(told(&[(4, 0, 0), (2, 7, 9), (2, 6, 9)]), (18, Some(2), Some(6)));
@@ -98,24 +99,23 @@ fn no_other_call_tells_a_record() {
         (Field { block: 11, bit_start: 0, bit_count: 1 }, Field { block: 0, bit_start: 256, bit_count: 0 });
     for (field, reason) in [(bad_block, Reason::Block), (bad_range, Reason::BitRange)] {
         let mut bytes = [0; 2];
-        assert_eq!(field.read_u8(&ZEROS), refused(reason));
-        assert_eq!(field.read_u16(&ZEROS), refused(reason));
-        assert_eq!(field.read_u32(&ZEROS), refused(reason));
-        assert_eq!(field.read_le(&ZEROS, &mut bytes), refused(reason));
+        assert_eq!(field.read_u8(&ZEROS, &EIGHTS), refused(reason));
+        assert_eq!(field.read_u16(&ZEROS, &EIGHTS), refused(reason));
+        assert_eq!(field.read_u32(&ZEROS, &EIGHTS), refused(reason));
+        assert_eq!(field.read_le(&ZEROS, &EIGHTS, &mut bytes), refused(reason));
     }
-    assert_eq!(Session { field: &ZEROS, reference: &ONES }.view(0, 11), refused(Reason::Block));
+    assert_eq!(SESSION.view(0, 11), refused(Reason::Block));
 }
 
 #[test]
 fn other_numbers_of_a_call_with_a_map_tell_no_record() {
     let bad_map = with(&esp32_map(), &[(3, 6, 1)]);
-    let decode = |dump: &[u32], unit| LineRecord::decode(dump, &bad_map, unit, DB);
+    let decode = |dump: &[u32], unit| LineRecord::decode(dump, &EIGHTS, &bad_map, unit, DB);
     assert_eq!((decode(&[], UNIT), decode(&ZEROS, Unit(2))), (refused(Reason::Dump), refused(Reason::Unit)));
-    let session = Session { field: &ZEROS, reference: &ONES };
-    assert_eq!(session.sample(&bad_map, Sample { board: 2, ..SAMPLE }), refused(Reason::Board));
-    assert_eq!(session.sample(&esp32_map(), Sample { raw: Count(4096), ..SAMPLE }), refused(Reason::Raw));
-    assert_eq!(s2::init_code(&ZEROS, &s2_map(), UNIT, DB), refused(Reason::NoCode));
-    assert_eq!(c6::cal_code(&ZEROS, &c6_map(), 0, UNIT, DB), refused(Reason::NoCode));
+    assert_eq!(SESSION.sample(&bad_map, Sample { board: 2, ..SAMPLE }), refused(Reason::Board));
+    assert_eq!(SESSION.sample(&esp32_map(), Sample { raw: Count(4096), ..SAMPLE }), refused(Reason::Raw));
+    assert_eq!(s2::init_code(&ZEROS, &EIGHTS, &s2_map(), UNIT, DB), refused(Reason::NoCode));
+    assert_eq!(c6::cal_code(&ZEROS, &EIGHTS, &c6_map(), 0, UNIT, DB), refused(Reason::NoCode));
 }
 
 #[test]
@@ -133,12 +133,13 @@ fn a_reason_keeps_its_number() {
 
 #[test]
 fn a_refusal_is_told_in_words() {
-    let told = |at: usize, byte| check_map(Chip::ESP32, &with(&esp32_map(), &[(3, at, byte)])).unwrap_err().to_string();
+    let told =
+        |at: usize, byte| check_map(Chip::ESP32, &EIGHTS, &with(&esp32_map(), &[(3, at, byte)])).unwrap_err().to_string();
     assert_eq!(told(6, 1), "map record 3, byte 6: a byte among a map record's last three isn't zero (refusal 18)");
     assert_eq!(told(0, 9), "map record 3: a map record's id isn't that of its place (refusal 3)");
-    let first = check_map(Chip::C6, &with(&c6_map(), &[(0, 1, 11)])).unwrap_err();
+    let first = check_map(Chip::C6, &EIGHTS, &with(&c6_map(), &[(0, 1, 11)])).unwrap_err();
     assert_eq!(first.to_string(), "map record 0: block above 10 (refusal 4)");
-    let alone = Field { block: 11, bit_start: 0, bit_count: 0 }.read_u8(&ZEROS).unwrap_err();
+    let alone = Field { block: 11, bit_start: 0, bit_count: 0 }.read_u8(&ZEROS, &EIGHTS).unwrap_err();
     assert_eq!(alone.to_string(), "block above 10 (refusal 4)");
     let error: Box<dyn Error> = Box::new(Refusal::from(Reason::Raw));
     assert_eq!(error.to_string(), "count above 4095 (refusal 8)");
