@@ -10,14 +10,14 @@ use Rattle.maps.specs.Map.{mapRefusal}
 -- of a call that takes no unit and no attenuation
 -- 1 for the dump
 -- then those of the map
-unfoldable pub fieldsRefusal : (ℕ → ℕ) → MapChip → List ℕ → List ℕ → ℕ
-fieldsRefusal words chip dump map = orElse (dumpRefusal dump) (mapRefusal words chip map)
+unfoldable pub fieldsRefusal : List ℕ → MapChip → List ℕ → List ℕ → ℕ
+fieldsRefusal lengths chip dump map = orElse (dumpRefusal lengths dump) (mapRefusal lengths chip map)
 
 -- 1 for the dump
 -- 7 for unit and attenuation
 -- then those of the map
-unfoldable pub decodingRefusal : (ℕ → ℕ) → MapChip → List ℕ → List ℕ → ℕ → ℕ → ℕ
-decodingRefusal words chip dump map unit atten =
-    orElse (dumpRefusal dump)
+unfoldable pub decodingRefusal : List ℕ → MapChip → List ℕ → List ℕ → ℕ → ℕ → ℕ
+decodingRefusal lengths chip dump map unit atten =
+    orElse (dumpRefusal lengths dump)
     (orElse (unitRefusal unit atten)
-    (mapRefusal words chip map))
+    (mapRefusal lengths chip map))

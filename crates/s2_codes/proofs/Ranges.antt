@@ -36,9 +36,9 @@ high-spread : (k : ℕ) → k < 8 → Spread 4321 7986 (17 + k)
 unfolding calibMap entryAt along
 high-spread = rule (λ k. spread 4321 7986 (17 + k)) 8 tt
 
-module _ (words : ℕ → ℕ) (dump map : List ℕ) (unit atten : ℕ) (good : codeRefusal words dump map unit atten ≡ 0) where
+module _ (lengths dump map : List ℕ) (unit atten : ℕ) (good : codeRefusal lengths dump map unit atten ≡ 0) where
   inside : (unit ≤ 1) × (atten ≤ 3)
-  inside = code-good words dump map unit atten good .1
+  inside = code-good lengths dump map unit atten good .1
 
   -- a parameter of version 2 whose eight tags are from a first one on
   module _ (param : RtcCalibParam) (first : ℕ) (pairs : firstTag 2 param ≡ first) (some : 0 < first) {low high : ℕ}
@@ -49,19 +49,19 @@ module _ (words : ℕ → ℕ) (dump map : List ℕ) (unit atten : ℕ) (good : 
         (rw (tag-is 2 unit atten param pairs some) (eight-tags (unit * 4 + atten) (omega (arith, inside))))
 
     -- the code is the reading itself, and in its range
-    code-answer : let v = valueOf (codeOf words dump map unit atten param) in
+    code-answer : let v = valueOf (codeOf lengths dump map unit atten param) in
         (pos v ≡ readingOf dump false (tagOf 2 unit atten param)) × ((low ≤ v) × (v ≤ high))
     unfolding codeOf toldOf
     code-answer = rw good (sym (code-between .whole), (code-between .least, code-between .most))
 
-  pub code-whole : (pos (valueOf (initCodeOf words dump map unit atten)) ≡ readingOf dump false (tagOf 2 unit atten Vinit))
-      × (pos (valueOf (calCodeOf words dump map unit atten)) ≡ readingOf dump false (tagOf 2 unit atten Vhigh))
+  pub code-whole : (pos (valueOf (initCodeOf lengths dump map unit atten)) ≡ readingOf dump false (tagOf 2 unit atten Vinit))
+      × (pos (valueOf (calCodeOf lengths dump map unit atten)) ≡ readingOf dump false (tagOf 2 unit atten Vhigh))
   code-whole =
       (code-answer Vinit 25 init-pairs (omega arith) init-spread .0, code-answer Vhigh 17 high-pairs (omega arith) high-spread .0)
 
   pub code-range :
-      let init = valueOf (initCodeOf words dump map unit atten) in
-      let cal = valueOf (calCodeOf words dump map unit atten) in
+      let init = valueOf (initCodeOf lengths dump map unit atten) in
+      let cal = valueOf (calCodeOf lengths dump map unit atten) in
       ((1265 ≤ init) × (init ≤ 2127)) × ((4321 ≤ cal) × (cal ≤ 7986))
   code-range =
       (code-answer Vinit 25 init-pairs (omega arith) init-spread .1, code-answer Vhigh 17 high-pairs (omega arith) high-spread .1)

@@ -15,9 +15,9 @@ use Rattle.s2_readings.specs.Tag.{tagOf}
 use Rattle.s2_codes.specs.Code.{codeRefusal, codeOf}
 
 -- `rtc_calib_init_code` and `rtc_calib_cal_code`, by the parameter
-pub code-says : (words : ℕ → ℕ) (dump map : List ℕ) (unit atten : ℕ) (param : RtcCalibParam)
+pub code-says : (lengths dump map : List ℕ) (unit atten : ℕ) (param : RtcCalibParam)
     → Says refusalOf valueOf 0
-    (codeOf words dump map unit atten param) (toldOf words S2 map (codeRefusal words dump map unit atten))
+    (codeOf lengths dump map unit atten param) (toldOf lengths S2 map (codeRefusal lengths dump map unit atten))
     (natAbs (readingOf dump false (tagOf 2 unit atten param)))
 unfolding codeOf
-code-says words dump map unit atten param = map-says words map S2 code-paper _ _
+code-says lengths dump map unit atten param = map-says lengths map S2 code-paper _ _

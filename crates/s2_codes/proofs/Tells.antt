@@ -17,15 +17,15 @@ use Rattle.s2_codes.specs.When.{CodeWhen, before, bad-version, good-vers
 use Rattle.s2_codes.proofs.Exactly.{code-exactly}
 use Rattle.s2_codes.proofs.Says.{code-says}
 
-module _ (words : ℕ → ℕ) (dump map : List ℕ) (unit atten : ℕ) where
-  code-of-map : (n : ℕ) → CodeWhen words dump map unit atten n → ofRecord n ≡ true → MapWhen words S2 map n
-  code-of-map n (before k some) t = decoding-of-map words S2 dump map unit atten n k t
+module _ (lengths dump map : List ℕ) (unit atten : ℕ) where
+  code-of-map : (n : ℕ) → CodeWhen lengths dump map unit atten n → ofRecord n ≡ true → MapWhen lengths S2 map n
+  code-of-map n (before k some) t = decoding-of-map lengths S2 dump map unit atten n k t
   code-of-map n (bad-version k v) t = absurd (true≢false (sym t))
   code-of-map n (good-version k v) t = absurd (true≢false (sym t))
 
   -- `rtc_calib_init_code` and `rtc_calib_cal_code`, by the parameter
   pub code-told : (param : RtcCalibParam)
-      → Exactly (refusalOf (codeOf words dump map unit atten param)) (ToldWhen words S2 map (CodeWhen words dump map unit atten))
+      → Exactly (refusalOf (codeOf lengths dump map unit atten param)) (ToldWhen lengths S2 map (CodeWhen lengths dump map unit atten))
   code-told param =
-      rw (code-says words dump map unit atten param .refusal-is)
-      (told-exactly words map S2 (code-exactly words dump map unit atten) code-of-map)
+      rw (code-says lengths dump map unit atten param .refusal-is)
+      (told-exactly lengths map S2 (code-exactly lengths dump map unit atten) code-of-map)

@@ -19,20 +19,20 @@ use Rattle.esp32s2.specs.Version.{versionOf}
 
 -- 1, 7 and those of the map
 -- 12: S2 version not 2
-unfoldable pub codeRefusal : (ℕ → ℕ) → List ℕ → List ℕ → ℕ → ℕ → ℕ
-codeRefusal words dump map unit atten =
-    orElse (decodingRefusal words S2 dump map unit atten)
+unfoldable pub codeRefusal : List ℕ → List ℕ → List ℕ → ℕ → ℕ → ℕ
+codeRefusal lengths dump map unit atten =
+    orElse (decodingRefusal lengths S2 dump map unit atten)
     (refuse (not (eqb (versionOf dump map) 2)) 12 0)
 
 -- version 2's reading of a parameter, which is never negative (`code-whole`)
-unfoldable pub codeOf : (ℕ → ℕ) → List ℕ → List ℕ → ℕ → ℕ → RtcCalibParam → Code
-codeOf words dump map unit atten param =
-    told (toldOf words S2 map (codeRefusal words dump map unit atten))
+unfoldable pub codeOf : List ℕ → List ℕ → List ℕ → ℕ → ℕ → RtcCalibParam → Code
+codeOf lengths dump map unit atten param =
+    told (toldOf lengths S2 map (codeRefusal lengths dump map unit atten))
     (Value (natAbs (readingOf dump false (tagOf 2 unit atten param))))
     Refused
 
-abbrev pub initCodeOf : (ℕ → ℕ) → List ℕ → List ℕ → ℕ → ℕ → Code
-initCodeOf words dump map unit atten = codeOf words dump map unit atten Vinit
+abbrev pub initCodeOf : List ℕ → List ℕ → List ℕ → ℕ → ℕ → Code
+initCodeOf lengths dump map unit atten = codeOf lengths dump map unit atten Vinit
 
-abbrev pub calCodeOf : (ℕ → ℕ) → List ℕ → List ℕ → ℕ → ℕ → Code
-calCodeOf words dump map unit atten = codeOf words dump map unit atten Vhigh
+abbrev pub calCodeOf : List ℕ → List ℕ → List ℕ → ℕ → ℕ → Code
+calCodeOf lengths dump map unit atten = codeOf lengths dump map unit atten Vhigh

@@ -10,7 +10,7 @@ use Rattle.esp32s2.specs.Version.{versionOf}
 
 -- a code: 1, 7 and those of the map, then 12
 -- 12: "S2 version not 2"
-pub data CodeWhen (words : ℕ → ℕ) (dump map : List ℕ) (unit atten : ℕ) : ℕ → Type 0 where
-  before : {n : ℕ} → DecodingWhen words S2 dump map unit atten n → (n ≡ 0 → ⊥) → CodeWhen words dump map unit atten n
-  bad-version : DecodingWhen words S2 dump map unit atten 0 → (versionOf dump map ≡ 2 → ⊥) → CodeWhen words dump map unit atten 12
-  good-version : DecodingWhen words S2 dump map unit atten 0 → versionOf dump map ≡ 2 → CodeWhen words dump map unit atten 0
+pub data CodeWhen (lengths dump map : List ℕ) (unit atten : ℕ) : ℕ → Type 0 where
+  before : {n : ℕ} → DecodingWhen lengths S2 dump map unit atten n → (n ≡ 0 → ⊥) → CodeWhen lengths dump map unit atten n
+  bad-version : DecodingWhen lengths S2 dump map unit atten 0 → (versionOf dump map ≡ 2 → ⊥) → CodeWhen lengths dump map unit atten 12
+  good-version : DecodingWhen lengths S2 dump map unit atten 0 → versionOf dump map ≡ 2 → CodeWhen lengths dump map unit atten 0

@@ -15,7 +15,6 @@ ghost use Prim.Native.Nat.{_≤_};
 ghost use lib.IntN.{pos};
 ghost use lib.ListN.{length};
 ghost use Rattle.terms.specs.declared.chip.MapChip.the-variants.{S2};
-ghost use Rattle.dumps.specs.Dump.{eight};
 ghost use Rattle.maps.specs.Told.{toldOf};
 ghost use Rattle.s2_readings.specs.Reading.{readingOf};
 ghost use Rattle.s2_readings.specs.Tag.{tagOf};
@@ -23,15 +22,15 @@ ghost use Rattle.s2_codes.specs.Code.{codeRefusal, codeOf, initCodeOf, c
 
 const CODE_VERSION: u8 = 2;
 
-// The first thing wrong with a call for a code: 1, 7, the map's, 12.
-fn code_refusal(dump: &[u32], map: &[u8], unit: u8, atten: u8) -> Refusal
-    ensures { λ r. ⌜ r ≡ toldOf eight S2 (now (map .entry)) (codeRefusal eight (now (dump .entry)) (now (map .entry)) unit atten) ⌝ }
+// The first thing wrong with a call for a code: 1, 20, 7, the map's, 12.
+fn code_refusal(dump: &[u32], lengths: &[u8], map: &[u8], unit: u8, atten: u8) -> Refusal
+    ensures { λ r. ⌜ r ≡ toldOf (now (lengths .entry)) S2 (now (map .entry)) (codeRefusal (now (lengths .entry)) (now (dump .entry)) (now (map .entry)) unit atten) ⌝ }
 {
-    let why = decoding_refusal(MapChip::S2, dump, map, unit, atten);
+    let why = decoding_refusal(MapChip::S2, dump, lengths, map, unit, atten);
     if why.number != refusal::NONE {
         return why;
     }
-    if record_value(dump, map, BLK_VERSION_MINOR) != CODE_VERSION as u32 {
+    if record_value(dump, lengths, map, BLK_VERSION_MINOR) != CODE_VERSION as u32 {
         return refusal::plain(refusal::VERSION);
     }
     refusal::plain(refusal::NONE)
@@ -50,26 +49,33 @@ fn code_at(dump: &[u32], unit: u8, atten: u8, param: RtcCalibParam) -> u16
 }
 
 // The code of a parameter, or its refusal.
-fn code_of(dump: &[u32], map: &[u8], unit: u8, atten: u8, param: RtcCalibParam) -> Code
-    ensures { λ r. ⌜ r ≡ codeOf eight (now (dump .entry)) (now (map .entry)) unit atten param ⌝ }
+fn code_of(
+    dump: &[u32],
+    lengths: &[u8],
+    map: &[u8],
+    unit: u8,
+    atten: u8,
+    param: RtcCalibParam,
+) -> Code
+    ensures { λ r. ⌜ r ≡ codeOf (now (lengths .entry)) (now (dump .entry)) (now (map .entry)) unit atten param ⌝ }
 {
-    let why = code_refusal(dump, map, unit, atten);
+    let why = code_refusal(dump, lengths, map, unit, atten);
     if why.number != refusal::NONE {
         return Code::Refused(why);
     }
     Code::Value(code_at(dump, unit, atten, param))
 }
 
-// The ADC's initial code for a unit and an attenuation: from 1265 to 2127. Refusals 1, 7, the map's, 12.
-pub fn rtc_calib_init_code(dump: &[u32], map: &[u8], unit: u8, atten: u8) -> Code
-    ensures { λ r. ⌜ r ≡ initCodeOf eight (now (dump .entry)) (now (map .entry)) unit atten ⌝ }
+// The ADC's initial code for a unit and an attenuation: from 1265 to 2127. Refusals 1, 20, 7, the map's, 12.
+pub fn rtc_calib_init_code(dump: &[u32], lengths: &[u8], map: &[u8], unit: u8, atten: u8) -> Code
+    ensures { λ r. ⌜ r ≡ initCodeOf (now (lengths .entry)) (now (dump .entry)) (now (map .entry)) unit atten ⌝ }
 {
-    code_of(dump, map, unit, atten, RtcCalibParam::Vinit)
+    code_of(dump, lengths, map, unit, atten, RtcCalibParam::Vinit)
 }
 
-// The ADC's code at the reference voltage of a unit and an attenuation: from 4321 to 7986. Refusals 1, 7, the map's, 12.
-pub fn rtc_calib_cal_code(dump: &[u32], map: &[u8], unit: u8, atten: u8) -> Code
-    ensures { λ r. ⌜ r ≡ calCodeOf eight (now (dump .entry)) (now (map .entry)) unit atten ⌝ }
+// The ADC's code at the reference voltage of a unit and an attenuation: from 4321 to 7986. Refusals 1, 20, 7, the map's, 12.
+pub fn rtc_calib_cal_code(dump: &[u32], lengths: &[u8], map: &[u8], unit: u8, atten: u8) -> Code
+    ensures { λ r. ⌜ r ≡ calCodeOf (now (lengths .entry)) (now (dump .entry)) (now (map .entry)) unit atten ⌝ }
 {
-    code_of(dump, map, unit, atten, RtcCalibParam::Vhigh)
+    code_of(dump, lengths, map, unit, atten, RtcCalibParam::Vhigh)
 }

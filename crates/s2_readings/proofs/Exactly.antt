@@ -12,12 +12,12 @@ use Rattle.s2_readings.specs.When.{ReadingWhen, reading-dump, reading-un
 module _ (dump : List ℕ) (unit atten : ℕ) where
   reading-gives : (n : ℕ) → ReadingWhen dump unit atten n → readingRefusal dump unit atten ≡ n
   unfolding readingRefusal
-  reading-gives n (reading-dump d some) = orElse-given _ _ (dump-exactly dump n .1 d) some
-  reading-gives n (reading-unit d u) = rw (dump-exactly dump 0 .1 d) (unit-exactly unit atten n .1 u)
+  reading-gives n (reading-dump d some) = orElse-given _ _ (dump-exactly lengths dump n .1 d) some
+  reading-gives n (reading-unit d u) = rw (dump-exactly lengths dump 0 .1 d) (unit-exactly unit atten n .1 u)
 
   reading-some : Some (ReadingWhen dump unit atten)
   reading-some =
-      by-first (dump-exactly dump)
+      by-first (dump-exactly lengths dump)
       (λ d. (_, reading-unit d (case (unit-exactly unit atten))))
       (λ n d some. (n, reading-dump d some))
 

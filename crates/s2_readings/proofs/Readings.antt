@@ -20,7 +20,7 @@ module _ (dump : List ℕ) (unit atten : ℕ) where
   pub reading-good : readingRefusal dump unit atten ≡ 0 → (length dump ≡ 88) × ((unit ≤ 1) × (atten ≤ 3))
   unfolding readingRefusal
   reading-good e =
-      let p = orElse-none (dumpRefusal dump) _ e in
+      let p = orElse-none (dumpRefusal lengths dump) _ e in
       (dump-whole dump (p .0), unit-inside unit atten (p .1))
 
   good-reading : (length dump ≡ 88) × (unit ≤ 1) × (atten ≤ 3) → readingRefusal dump unit atten ≡ 0

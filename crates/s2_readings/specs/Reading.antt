@@ -35,7 +35,7 @@ readingOf = within 4
 
 -- 1 for the dump, then 7 for unit and attenuation
 unfoldable pub readingRefusal : List ℕ → ℕ → ℕ → ℕ
-readingRefusal dump unit atten = orElse (dumpRefusal dump) (unitRefusal unit atten)
+readingRefusal dump unit atten = orElse (dumpRefusal lengths dump) (unitRefusal unit atten)
 
 unfoldable pub calibReadingOf : List ℕ → ℕ → ℕ → ℕ → RtcCalibParam → Reading
 calibReadingOf dump version unit atten param =

@@ -9,5 +9,5 @@ use Rattle.dumps.specs.When.{DumpWhen}
 
 -- a reading, which takes no map: 1, then 7
 pub data ReadingWhen (dump : List ℕ) (unit atten : ℕ) : ℕ → Type 0 where
-  reading-dump : {n : ℕ} → DumpWhen dump n → (n ≡ 0 → ⊥) → ReadingWhen dump unit atten n
-  reading-unit : {n : ℕ} → DumpWhen dump 0 → UnitWhen unit atten n → ReadingWhen dump unit atten n
+  reading-dump : {n : ℕ} → DumpWhen lengths dump n → (n ≡ 0 → ⊥) → ReadingWhen dump unit atten n
+  reading-unit : {n : ℕ} → DumpWhen lengths dump 0 → UnitWhen unit atten n → ReadingWhen dump unit atten n

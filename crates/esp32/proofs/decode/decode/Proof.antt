@@ -4,7 +4,6 @@ use mathlib.Core.Path.{_≡_, sym, _∙_}
 use denote.Ref.{now}
 use borrow.Author.Needs.{needs}
 use Rattle.terms.specs.declared.chip.MapChip.the-variants.{Esp32}
-use Rattle.dumps.specs.Dump.{eight}
 use Rattle.maps.proofs.Told.{told-is-number}
 use Rattle.inputs.specs.Input.{decodingRefusal}
 use Rattle.inputs.proofs.Inputs.{decoding-good}

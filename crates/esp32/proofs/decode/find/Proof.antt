@@ -5,7 +5,6 @@ use lib.Dec.{lit≤}
 use denote.Ref.{now}
 use borrow.Author.Needs.{needs}
 use Rattle.terms.specs.declared.chip.MapChip.the-variants.{Esp32}
-use Rattle.dumps.specs.Dump.{eight}
 use Rattle.inputs.specs.Input.{fieldsRefusal}
 use Rattle.maps.specs.Value.{valueById}
 use Rattle.esp32.specs.Decode.{foundOf}

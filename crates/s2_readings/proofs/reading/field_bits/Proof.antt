@@ -7,7 +7,6 @@ use native.Mathlib.Omega.{arith}
 use lib.ListN.{length}
 use borrow.Author.Needs.{needs}
 use Rattle.efuse.specs.declared.field.EfuseField.{EfuseField}
-use Rattle.dumps.specs.Dump.{eight}
 use Rattle.efuse.specs.Field.{bitsOf, readRefusal, fieldBits}
 use Rattle.efuse.proofs.Places.{inside-place, read-good, read-is, read-there}
 use Rattle.s2_readings.proofs.reading.field_bits.Statement.{statement}
