@@ -4,11 +4,18 @@ use replay::bytes;
 
 const MOST_WORDS: usize = 8;
 
-// Whether the words of a view, at most eight, are those of the bytes, each low byte first.
-fn same_words(words: &[u32], expected: &[u8]) -> bool {
-    let n = bytes::at_most(words.len(), MOST_WORDS);
-    for k in 0..n {
-        if words[k] != bytes::number32(expected, 4 * k) {
+// A view's word; zero where it has no such word.
+fn word_of(viewed: &[u32], k: usize) -> u32 {
+    if viewed.len() <= k {
+        return 0;
+    }
+    viewed[k]
+}
+
+// Whether the words of a view, and zeros behind them, are those of the bytes, each low byte first.
+fn same_words(viewed: &[u32], expected: &[u8]) -> bool {
+    for k in 0..MOST_WORDS {
+        if word_of(viewed, k) != bytes::number32(expected, 4 * k) {
             return false;
         }
     }

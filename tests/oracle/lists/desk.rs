@@ -278,7 +278,7 @@ fn any_case(noise: &mut Noise) -> Case {
 }
 
 /// Good lists: all eights, the least lengths that the map fits, with logs whose key changes. Then each record of a map outside its
-/// block's own length, and a block of no words.
+/// block's own length, a block of no words, and a last record whose field would need a word more.
 fn good_lists(plain: &Case, scattered: &Case) -> Vec<Case> {
     let mut cases = vec![plain.under(EIGHTS), scattered.under(EIGHTS).on(logs::orders())];
     cases.push(plain.under(lengths::least(&plain_map())));
@@ -288,6 +288,7 @@ fn good_lists(plain: &Case, scattered: &Case) -> Vec<Case> {
     cases.push(plain.under(lengths::with(EIGHTS, 0, 0)));
     cases.push(plain.under(lengths::with(EIGHTS, 1, 0)));
     cases.extend((0..6).map(|k| scattered.under(lengths::outside(&scattered_map(), k))));
+    cases.extend([7, 6].map(|words| plain.under(lengths::with(EIGHTS, 0, words)).mapped(changed(&[(5, 2, 192)]))));
     cases
 }
 

@@ -1,27 +1,20 @@
--- `efuse_cases::views::same_words` ends: it goes up to n, past which there may be no word. Assumes nothing.
+-- `efuse_cases::views::same_words` ends: it goes up to the eight words that a block may have. Assumes nothing.
 use Prim.Native.Nat.{_-_, _≤_}
-use lib.ListN.{length}
 use borrow.Author.Needs.{needs}
 use Rattle.efuse_cases.proofs.views.same_words.Statement.{statement}
 use Rattle.efuse_cases.proofs.views.same_words.Tie as tie
 
 abbrev Inv-loop : tie.InvT-loop
-Inv-loop words expected n k₀ k = (n ≤ 8) × (n ≤ length words) × (k ≤ n)
+Inv-loop viewed expected k₀ k = k ≤ 8
 
 abbrev μ-loop : tie.MeasureT-loop
-μ-loop words expected n k₀ k = n - k
-
-at-most-requires : tie.Need-at-most-requires Inv-loop μ-loop
-at-most-requires c κs = search needs
+μ-loop viewed expected k₀ k = 8 - k
 
 loop-holds : tie.Need-loop-holds Inv-loop μ-loop
 loop-holds c = search needs
 
-mul-if1 : tie.Need-mul-if1 Inv-loop μ-loop
-mul-if1 c = search needs
-
-shared-slice-read-if1 : tie.Need-shared-slice-read-if1 Inv-loop μ-loop
-shared-slice-read-if1 c = search needs
+word-of-requires : tie.Need-word-of-requires Inv-loop μ-loop
+word-of-requires c κs = search needs
 
 mul-number32 : tie.Need-mul-number32 Inv-loop μ-loop
 mul-number32 c = search needs
@@ -50,10 +43,8 @@ same-words-spec =
     (tie.spec
     Inv-loop
     μ-loop
-    at-most-requires
     loop-holds
-    mul-if1
-    shared-slice-read-if1
+    word-of-requires
     mul-number32
     number32-requires
     returns
