@@ -27,7 +27,7 @@ fn odd_ones(count: u8) -> bool
 pub fn flash_encryption(dump: &[u32], lengths: &[u8], map: &[u8]) -> FlashEncryption
     ensures { λ r. ⌜ r ≡ flashEncryptionOf (now (lengths .entry)) (now (dump .entry)) (now (map .entry)) ⌝ }
 {
-    let why = fields_refusal(MapChip::S2, dump, map);
+    let why = fields_refusal(MapChip::S2, dump, lengths, map);
     if why.number != refusal::NONE {
         return FlashEncryption::Refused(why);
     }

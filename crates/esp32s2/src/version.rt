@@ -20,7 +20,7 @@ pub enum Version {
 pub fn rtc_calib_version(dump: &[u32], lengths: &[u8], map: &[u8]) -> Version
     ensures { λ r. ⌜ r ≡ calibVersionOf (now (lengths .entry)) (now (dump .entry)) (now (map .entry)) ⌝ }
 {
-    let why = fields_refusal(MapChip::S2, dump, map);
+    let why = fields_refusal(MapChip::S2, dump, lengths, map);
     if why.number != refusal::NONE {
         return Version::Refused(why);
     }

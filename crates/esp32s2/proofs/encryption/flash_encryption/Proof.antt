@@ -25,10 +25,10 @@ record-value-requires : tie.Need-record-value-requires
 record-value-requires c κs = search needs
 
 module _ (c : tie.After-record-value) where
-  good : let a = c .before .before .before .before .before .before .args in fieldsRefusal eight S2 (now (a .dump)) (now (a .map)) ≡ 0
+  good : let a = c .before .before .before .before .before .before .before .args in fieldsRefusal (now (a .lengths)) S2 (now (a .dump)) (now (a .map)) ≡ 0
   good = sym (told-is-number _ _ _ (c .before .before .before .fields-refusal .ensures)) ∙ c .before .if1 .left
 
-  count : let a = c .before .before .before .before .before .before .args in
+  count : let a = c .before .before .before .before .before .before .before .args in
       c .record-value .result ≡ valueById S2 (now (a .dump)) (now (a .map)) 8
   count = field-is _ _ _ good 1 (lit≤ tt) (c .record-value .ensures)
 
