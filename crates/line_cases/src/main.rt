@@ -3,7 +3,7 @@ mod convert;
 mod decode;
 mod fill;
 mod handed;
-mod samples;
+mod two_boards;
 
 use replay::Layout;
 use replay::lengths;
@@ -68,7 +68,7 @@ fn same<'a>(
         List::Fill => fill::same_fill(case),
         List::Stretches => fill::same_stretch(case),
         List::ShortDecode => decode::same_decode(words, own, behind),
-        List::Samples => samples::same_sample(words, reference, own, behind),
+        List::Samples => two_boards::same_sample(words, reference, own, behind),
     }
 }
 
