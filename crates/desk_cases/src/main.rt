@@ -36,10 +36,18 @@ fn run_case(case: &[u8; FILES]) {
     );
 }
 
+// Reads the numbers of so many files, at most all, and tells whether there were so many.
+fn read_numbers(cases: i32, files: usize, case: &mut [u8]) -> bool {
+    if case.len() < files {
+        return false;
+    }
+    io::read_full(cases, &mut case[0..files]) == files
+}
+
 // Runs the next case, which has the numbers of so many files, and tells whether there was one.
 fn run_next(cases: i32, files: usize, number: u64) -> bool {
     let mut case = [MISSING; FILES];
-    if read_start(cases, &mut case, files) != files {
+    if !read_numbers(cases, files, &mut case) {
         return false;
     }
     write_heading(number);
@@ -47,21 +55,25 @@ fn run_next(cases: i32, files: usize, number: u64) -> bool {
     true
 }
 
-// Runs the cases of a list to their end, numbered from the first on, and gives the number after theirs.
-fn run_cases(list: &[u8], files: usize, first: u64) -> u64 {
-    let cases = os::open_read(list);
-    let mut number = first;
-    while number < u64::MAX {
+// Runs the cases to their end, numbered from the first on, and gives the number after theirs.
+fn run_cases(cases: i32, files: usize, first: u64) -> u64 {
+    for number in first..u64::MAX {
         if !run_next(cases, files, number) {
-            libc::close(cases);
             return number;
         }
-        number += 1;
     }
+    u64::MAX
+}
+
+// Runs the cases of a list, each of which has the numbers of so many files.
+fn run_list(name: &[u8], files: usize, first: u64) -> u64 {
+    let cases = os::open_read(name);
+    let number = run_cases(cases, files, first);
+    libc::close(cases);
     number
 }
 
 fn main() {
-    let number = run_cases(b"cases", FILES_WITHOUT_LENGTHS, 0);
-    run_cases(b"lengths_cases", FILES, number);
+    let number = run_list(b"cases", FILES_WITHOUT_LENGTHS, 0);
+    run_list(b"lengths_cases", FILES, number);
 }
