@@ -1,4 +1,4 @@
-/* Dumps and maps for the tests. */
+/* Dumps, lists of block lengths and maps for the tests. */
 #ifndef BOARDS_H
 #define BOARDS_H
 
@@ -7,7 +7,16 @@
 #include <stdint.h>
 #include <string.h>
 
-enum { WORDS = SKV_DUMP_WORDS, ESP32_MAP = SKV_ESP32_MAP_BYTES, S2_MAP = SKV_S2_MAP_BYTES, C6_MAP = SKV_C6_MAP_BYTES };
+enum {
+    WORDS = SKV_DUMP_WORDS,
+    BLOCKS = SKV_BLOCKS,
+    ESP32_MAP = SKV_ESP32_MAP_BYTES,
+    S2_MAP = SKV_S2_MAP_BYTES,
+    C6_MAP = SKV_C6_MAP_BYTES
+};
+
+/* A chip without a short block. */
+static const uint8_t eights[BLOCKS] = SKV_EIGHTS;
 
 /* Writes a value into the bits of a block. */
 static inline void put_bits(uint32_t *dump, int block, int start, int count, uint32_t value)

@@ -29,6 +29,7 @@ static inline int is_zero(SkvLineRecord r)
 void sizes(void);
 void fields(void);
 void edges(void);
+void lengths(void);
 void maps(void);
 void records(void);
 void lines(void);

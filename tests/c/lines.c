@@ -12,7 +12,7 @@ static SkvDecoded with_vref(uint32_t code)
     uint8_t map[ESP32_MAP];
     esp32_map(map);
     put_bits(dump, 3, VREF, 5, code);
-    return skv_decode(dump, WORDS, map, ESP32_MAP, 0, 3);
+    return skv_decode(dump, WORDS, eights, BLOCKS, map, ESP32_MAP, 0, 3);
 }
 
 static SkvDecoded with_codes(uint32_t low, uint32_t high, uint8_t attenuation)
@@ -25,7 +25,7 @@ static SkvDecoded with_codes(uint32_t low, uint32_t high, uint8_t attenuation)
     put_bits(dump, 3, LOW2, 7, 1);
     put_bits(dump, 3, HIGH, 9, high);
     put_bits(dump, 3, HIGH2, 9, 1);
-    return skv_decode(dump, WORDS, map, ESP32_MAP, 0, attenuation);
+    return skv_decode(dump, WORDS, eights, BLOCKS, map, ESP32_MAP, 0, attenuation);
 }
 
 static int no_record(SkvDecoded d, uint8_t number)
@@ -53,9 +53,9 @@ static void decoding(void)
     CHECK(plain(with_codes(63, 0x1BC, 3).refusal, 0) && with_codes(63, 0x1BC, 3).record.coeff_b == 53);
     CHECK(no_record(with_codes(63, 0x101, 3), SKV_UNDERFLOW));
     esp32_map(map);
-    CHECK(no_record(skv_decode(dump, 0, map, 0, 2, 4), SKV_DUMP));
-    CHECK(no_record(skv_decode(dump, WORDS, map, 0, 2, 3), SKV_UNIT));
-    CHECK(no_record(skv_decode(dump, WORDS, map, 0, 1, 3), SKV_MAP));
+    CHECK(no_record(skv_decode(dump, 0, eights, BLOCKS, map, 0, 2, 4), SKV_DUMP));
+    CHECK(no_record(skv_decode(dump, WORDS, eights, BLOCKS, map, 0, 2, 3), SKV_UNIT));
+    CHECK(no_record(skv_decode(dump, WORDS, eights, BLOCKS, map, 0, 1, 3), SKV_MAP));
 }
 
 static void converting(void)
@@ -119,12 +119,12 @@ void logs(void)
     for (int i = 0; i < 3; i++) {
         const SkvNext next = skv_next_sample(log + SKV_SAMPLE_BYTES * i, (size_t)(12 - SKV_SAMPLE_BYTES * i));
         CHECK(plain(next.refusal, 0) && next.whole == 1 && next.sample.board == log[4 * i + 2] && next.sample.last == 3);
-        IS(skv_sample(next.sample, dump, WORDS, dump, WORDS, map, ESP32_MAP), numbers[i], voltage.mv, answers[i]);
+        IS(skv_sample(next.sample, dump, WORDS, dump, WORDS, eights, BLOCKS, map, ESP32_MAP), numbers[i], voltage.mv, answers[i]);
     }
     CHECK(nothing(skv_next_sample(log, 0), 0));
     CHECK(nothing(skv_next_sample(log, SKV_SAMPLE_BYTES - 1), SKV_LOG));
-    IS(skv_sample(board, dump, 0, dump, 0, map, 0), SKV_BOARD, voltage.mv, 0);
-    IS(skv_sample(last, dump, 0, dump, 0, map, 0), SKV_BOARD, voltage.mv, 0);
-    IS(skv_sample(unmapped, dump, WORDS, dump, 0, map, 0), SKV_DUMP, voltage.mv, 0);
-    IS(skv_sample(unmapped, dump, 0, dump, WORDS, map, 0), SKV_MAP, voltage.mv, 0);
+    IS(skv_sample(board, dump, 0, dump, 0, eights, BLOCKS, map, 0), SKV_BOARD, voltage.mv, 0);
+    IS(skv_sample(last, dump, 0, dump, 0, eights, BLOCKS, map, 0), SKV_BOARD, voltage.mv, 0);
+    IS(skv_sample(unmapped, dump, WORDS, dump, 0, eights, BLOCKS, map, 0), SKV_DUMP, voltage.mv, 0);
+    IS(skv_sample(unmapped, dump, 0, dump, WORDS, eights, BLOCKS, map, 0), SKV_MAP, voltage.mv, 0);
 }

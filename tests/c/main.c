@@ -1,6 +1,6 @@
 /* Calls every function of suongkivat.h with good and with bad input, and holds the answers to document 01: its marked cases, its
-   refusals in their order, and zeros beside each; and to document 02: which record of a map is bad, and where a line record comes from.
-   Ends 'N checks, M failed'. */
+   refusals in their order, and zeros beside each; and to document 02: which record of a map is bad, where a line record comes from, and
+   what lies inside a block's own length. Ends 'N checks, M failed'. */
 #include "check.h"
 #include <stdio.h>
 
@@ -20,6 +20,7 @@ int main(void)
     sizes();
     fields();
     edges();
+    lengths();
     maps();
     records();
     lines();

@@ -34,31 +34,31 @@ static void by_esp32(const uint8_t *map, SkvRefusal told)
 {
     const SkvSample field = {{0}, 0, 0}, reference = {{4096}, 1, 7}; /* 8 comes after the map's */
     const SkvDecoded decoded[2] = {
-        skv_decode(dump, WORDS, map, ESP32_MAP, 0, 3),
-        skv_decode(dump, WORDS, map, ESP32_MAP, 1, 0),
+        skv_decode(dump, WORDS, eights, BLOCKS, map, ESP32_MAP, 0, 3),
+        skv_decode(dump, WORDS, eights, BLOCKS, map, ESP32_MAP, 1, 0),
     };
-    CHECK(same(skv_check_map(SKV_ESP32, map, ESP32_MAP).refusal, told));
+    CHECK(same(skv_check_map(SKV_ESP32, eights, BLOCKS, map, ESP32_MAP).refusal, told));
     for (int i = 0; i < 2; i++)
         CHECK(same(decoded[i].refusal, told) && is_zero(decoded[i].record));
-    REFUSED(skv_sample(field, dump, WORDS, dump, 0, map, ESP32_MAP), told, voltage.mv);
-    REFUSED(skv_sample(reference, dump, 0, dump, WORDS, map, ESP32_MAP), told, voltage.mv);
+    REFUSED(skv_sample(field, dump, WORDS, dump, 0, eights, BLOCKS, map, ESP32_MAP), told, voltage.mv);
+    REFUSED(skv_sample(reference, dump, 0, dump, WORDS, eights, BLOCKS, map, ESP32_MAP), told, voltage.mv);
 }
 
 static void by_s2(const uint8_t *map, SkvRefusal told)
 {
-    CHECK(same(skv_check_map(SKV_S2, map, S2_MAP).refusal, told));
-    REFUSED(skv_s2_version(dump, WORDS, map, S2_MAP), told, version);
-    REFUSED(skv_s2_flash_encryption(dump, WORDS, map, S2_MAP), told, on);
-    REFUSED(skv_s2_init_code(dump, WORDS, map, S2_MAP, 0, 3), told, code);
-    REFUSED(skv_s2_cal_code(dump, WORDS, map, S2_MAP, 1, 0), told, code);
+    CHECK(same(skv_check_map(SKV_S2, eights, BLOCKS, map, S2_MAP).refusal, told));
+    REFUSED(skv_s2_version(dump, WORDS, eights, BLOCKS, map, S2_MAP), told, version);
+    REFUSED(skv_s2_flash_encryption(dump, WORDS, eights, BLOCKS, map, S2_MAP), told, on);
+    REFUSED(skv_s2_init_code(dump, WORDS, eights, BLOCKS, map, S2_MAP, 0, 3), told, code);
+    REFUSED(skv_s2_cal_code(dump, WORDS, eights, BLOCKS, map, S2_MAP, 1, 0), told, code);
 }
 
 static void by_c6(const uint8_t *map, SkvRefusal told)
 {
-    CHECK(same(skv_check_map(SKV_C6, map, C6_MAP).refusal, told));
-    REFUSED(skv_c6_init_code(dump, WORDS, map, C6_MAP, 0, 0, 3), told, code); /* 12 comes after the map's */
-    REFUSED(skv_c6_cal_code(dump, WORDS, map, C6_MAP, 2, 1, 0), told, code);
-    REFUSED(skv_c6_get_chan_compens(dump, WORDS, map, C6_MAP, 0, 6, 3), told, value);
+    CHECK(same(skv_check_map(SKV_C6, eights, BLOCKS, map, C6_MAP).refusal, told));
+    REFUSED(skv_c6_init_code(dump, WORDS, eights, BLOCKS, map, C6_MAP, 0, 0, 3), told, code); /* 12 comes after the map's */
+    REFUSED(skv_c6_cal_code(dump, WORDS, eights, BLOCKS, map, C6_MAP, 2, 1, 0), told, code);
+    REFUSED(skv_c6_get_chan_compens(dump, WORDS, eights, BLOCKS, map, C6_MAP, 0, 6, 3), told, value);
 }
 
 typedef struct Chip {
@@ -97,19 +97,19 @@ static void before_the_records(void)
     const SkvSample none = {{0}, 2, 0}, good = {{0}, 0, 0};
     uint8_t map[C6_MAP];
     memset(map, 0xFF, sizeof map);
-    CHECK(plain(skv_check_map(SKV_ESP32, map, ESP32_MAP + 1).refusal, SKV_MAP));
-    CHECK(plain(skv_check_map(SKV_C3, map, C6_MAP).refusal, SKV_MAP));
-    CHECK(plain(skv_decode(dump, 87, map, ESP32_MAP, 0, 3).refusal, SKV_DUMP));
-    CHECK(plain(skv_decode(dump, WORDS, map, ESP32_MAP, 2, 3).refusal, SKV_UNIT));
-    IS(skv_sample(none, dump, WORDS, dump, WORDS, map, ESP32_MAP), SKV_BOARD, voltage.mv, 0);
-    IS(skv_sample(good, dump, 0, dump, WORDS, map, ESP32_MAP), SKV_DUMP, voltage.mv, 0);
-    IS(skv_s2_version(dump, 0, map, S2_MAP), SKV_DUMP, version, 0);
-    IS(skv_s2_flash_encryption(dump, 0, map, S2_MAP), SKV_DUMP, on, 0);
-    IS(skv_s2_init_code(dump, WORDS, map, S2_MAP, 2, 0), SKV_UNIT, code, 0);
-    IS(skv_s2_cal_code(dump, WORDS, map, S2_MAP - 1, 0, 0), SKV_MAP, code, 0);
-    IS(skv_c6_init_code(dump, 0, map, C6_MAP, 1, 0, 0), SKV_DUMP, code, 0);
-    IS(skv_c6_cal_code(dump, WORDS, map, C6_MAP, 1, 0, 4), SKV_UNIT, code, 0);
-    IS(skv_c6_get_chan_compens(dump, WORDS, map, C6_MAP - 8, 0, 6, 3), SKV_MAP, value, 0);
+    CHECK(plain(skv_check_map(SKV_ESP32, eights, BLOCKS, map, ESP32_MAP + 1).refusal, SKV_MAP));
+    CHECK(plain(skv_check_map(SKV_C3, eights, BLOCKS, map, C6_MAP).refusal, SKV_MAP));
+    CHECK(plain(skv_decode(dump, 87, eights, BLOCKS, map, ESP32_MAP, 0, 3).refusal, SKV_DUMP));
+    CHECK(plain(skv_decode(dump, WORDS, eights, BLOCKS, map, ESP32_MAP, 2, 3).refusal, SKV_UNIT));
+    IS(skv_sample(none, dump, WORDS, dump, WORDS, eights, BLOCKS, map, ESP32_MAP), SKV_BOARD, voltage.mv, 0);
+    IS(skv_sample(good, dump, 0, dump, WORDS, eights, BLOCKS, map, ESP32_MAP), SKV_DUMP, voltage.mv, 0);
+    IS(skv_s2_version(dump, 0, eights, BLOCKS, map, S2_MAP), SKV_DUMP, version, 0);
+    IS(skv_s2_flash_encryption(dump, 0, eights, BLOCKS, map, S2_MAP), SKV_DUMP, on, 0);
+    IS(skv_s2_init_code(dump, WORDS, eights, BLOCKS, map, S2_MAP, 2, 0), SKV_UNIT, code, 0);
+    IS(skv_s2_cal_code(dump, WORDS, eights, BLOCKS, map, S2_MAP - 1, 0, 0), SKV_MAP, code, 0);
+    IS(skv_c6_init_code(dump, 0, eights, BLOCKS, map, C6_MAP, 1, 0, 0), SKV_DUMP, code, 0);
+    IS(skv_c6_cal_code(dump, WORDS, eights, BLOCKS, map, C6_MAP, 1, 0, 4), SKV_UNIT, code, 0);
+    IS(skv_c6_get_chan_compens(dump, WORDS, eights, BLOCKS, map, C6_MAP - 8, 0, 6, 3), SKV_MAP, value, 0);
 }
 
 void records(void)

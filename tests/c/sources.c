@@ -153,7 +153,7 @@ static SkvDecoded board_without(int which, int unit, int attenuation)
     esp32_map(map);
     for (int k = 0; k < 5; k++)
         put_bits(dump, 3, places[k], 1, k != which);
-    return skv_decode(dump, WORDS, map, ESP32_MAP, (uint8_t)unit, (uint8_t)attenuation);
+    return skv_decode(dump, WORDS, eights, BLOCKS, map, ESP32_MAP, (uint8_t)unit, (uint8_t)attenuation);
 }
 
 static void decoded(int unit, int attenuation)

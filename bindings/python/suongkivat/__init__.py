@@ -1,9 +1,11 @@
 """Suongkivat for Python: the raw ADC counts of ESP32 boards and their kin into millivolts, by the proved library, over ctypes.
 
-    board = suongkivat.Board("field.bin", "map.bin")
+    board = suongkivat.Board("field.bin", suongkivat.EIGHTS, "map.bin")
     record = board.record(unit=0, attenuation=3)      # ADC1 at 11 dB
     record.convert(2880)                              # millivolts
     record.millivolts([0, 2880, 4095])                # of many counts: an array where numpy is there, else a list
+
+EIGHTS is the list of block lengths of a chip whose blocks all have eight words; one whose first blocks are shorter has another.
 
 A call that is turned down raises Refused, with the number of docs/RULES.md, its words and what to do. Units are 0 and 1; attenuations
 0, 1, 2, 3 are 0, 2.5, 6 and 11 dB. `python3 -m suongkivat` tells which library is used.
@@ -16,13 +18,14 @@ from .lent import Dump
 from .library import LibraryMissing
 from .line import LineRecord, decode
 from .logs import Sample, next_sample, samples
-from .raw import C6_MAP_BYTES, COUNTS, DUMP_WORDS, ESP32_MAP_BYTES, S2_MAP_BYTES, SAMPLE_BYTES
+from .raw import BLOCKS, C6_MAP_BYTES, COUNTS, DUMP_WORDS, EIGHTS, ESP32_MAP_BYTES, S2_MAP_BYTES, SAMPLE_BYTES
 from .raw import VERSION as __version__
 from .refusals import WORDS, Refused
 from .units import Chip, Count, Millivolt, Source
 
 __all__ = [
     "Answer",
+    "BLOCKS",
     "Board",
     "C6_MAP_BYTES",
     "COUNTS",
@@ -30,6 +33,7 @@ __all__ = [
     "Count",
     "DUMP_WORDS",
     "Dump",
+    "EIGHTS",
     "ESP32_MAP_BYTES",
     "LibraryMissing",
     "LineRecord",

@@ -3,7 +3,7 @@ from __future__ import annotations
 
 from typing import SupportsIndex, Tuple
 
-from .lent import Bytes, DumpSource, bytes_lent, dump_lent
+from .lent import Bytes, DumpSource, Lengths, bytes_lent, dump_lent, lengths_lent
 from .library import ask, loaded
 from .units import Millivolt, held
 
@@ -18,26 +18,41 @@ def version(minor_block_version: SupportsIndex) -> int:
 
 
 def init_code(
-    dump: DumpSource, field_map: Bytes, minor_block_version: SupportsIndex, unit: SupportsIndex, attenuation: SupportsIndex
+    dump: DumpSource,
+    lengths: Lengths,
+    field_map: Bytes,
+    minor_block_version: SupportsIndex,
+    unit: SupportsIndex,
+    attenuation: SupportsIndex,
 ) -> int:
-    """The initial code. Refusals 1, 7, the map's, 12."""
-    lent = (*dump_lent(dump), *bytes_lent(field_map))
+    """The initial code. Refusals 1, 20, 7, the map's, 12."""
+    lent = (*dump_lent(dump), *lengths_lent(lengths), *bytes_lent(field_map))
     return int(ask("skv_c6_init_code", *lent, *_asked(minor_block_version, unit, attenuation)).code)
 
 
 def cal_code(
-    dump: DumpSource, field_map: Bytes, minor_block_version: SupportsIndex, unit: SupportsIndex, attenuation: SupportsIndex
+    dump: DumpSource,
+    lengths: Lengths,
+    field_map: Bytes,
+    minor_block_version: SupportsIndex,
+    unit: SupportsIndex,
+    attenuation: SupportsIndex,
 ) -> int:
-    """The code at the reference voltage. Refusals 1, 7, the map's, 12."""
-    lent = (*dump_lent(dump), *bytes_lent(field_map))
+    """The code at the reference voltage. Refusals 1, 20, 7, the map's, 12."""
+    lent = (*dump_lent(dump), *lengths_lent(lengths), *bytes_lent(field_map))
     return int(ask("skv_c6_cal_code", *lent, *_asked(minor_block_version, unit, attenuation)).code)
 
 
 def get_chan_compens(
-    dump: DumpSource, field_map: Bytes, unit: SupportsIndex, channel: SupportsIndex, attenuation: SupportsIndex
+    dump: DumpSource,
+    lengths: Lengths,
+    field_map: Bytes,
+    unit: SupportsIndex,
+    channel: SupportsIndex,
+    attenuation: SupportsIndex,
 ) -> int:
-    """A channel's compensation; channels 6 and up use channel 6. Refusals 1, 7, the map's."""
-    lent = (*dump_lent(dump), *bytes_lent(field_map))
+    """A channel's compensation; channels 6 and up use channel 6. Refusals 1, 20, 7, the map's."""
+    lent = (*dump_lent(dump), *lengths_lent(lengths), *bytes_lent(field_map))
     asked = held("a unit", unit, 8), held("a channel", channel, 8), held("an attenuation", attenuation, 8)
     return int(ask("skv_c6_get_chan_compens", *lent, *asked).value)
 

@@ -1,4 +1,4 @@
-"""What a call is lent to read: a dump's words, and the bytes of a map or a log."""
+"""What a call is lent to read: a dump's words, a list of block lengths, and the bytes of a map or a log."""
 from __future__ import annotations
 
 import operator
@@ -7,7 +7,7 @@ import pathlib
 from ctypes import Array, c_uint32
 from typing import Any, Iterable, List, SupportsIndex, Tuple, Union, cast
 
-from . import raw
+from . import raw, units
 
 # Whatever has bytes: bytes, bytearray, memoryview, an array of bytes; or the name of a file that has them.
 Bytes = Union[bytes, bytearray, memoryview, str, "os.PathLike[str]"]
@@ -29,6 +29,22 @@ def bytes_lent(source: Bytes) -> Tuple[bytes, int]:
     """Bytes as two arguments."""
     held = bytes_of(source)
     return held, len(held)
+
+
+# How many words each block has: bytes as above, or the numbers.
+Lengths = Union[Bytes, Iterable[SupportsIndex]]
+
+
+def lengths_of(source: Lengths) -> bytes:
+    """A list of block lengths, a byte each. A number that a byte has no room for is the largest: both are refused (20)."""
+    if _has_bytes(source):
+        return bytes_of(cast(Bytes, source))
+    return bytes(units.held("a block's length", length, 8) for length in cast(Iterable[SupportsIndex], source))
+
+
+def lengths_lent(source: Lengths) -> Tuple[bytes, int]:
+    """A list of block lengths as two arguments."""
+    return bytes_lent(lengths_of(source))
 
 
 class Dump:

@@ -20,6 +20,8 @@ from .refusals import refused
 VARIABLE = "SUONGKIVAT_LIBRARY"
 PACKAGE = pathlib.Path(__file__).resolve().parent
 NAME = "libsuongkivat.so"
+# How an empty list of block lengths is refused.
+NO_LENGTHS = 20
 # The name that says with which versions it can be exchanged.
 SONAME = f"{NAME}.{raw.VERSION.split('.')[0]}"
 HOW = f"""Build it in the project's folder, with the Rattle kit and gcc:
@@ -76,13 +78,12 @@ def _declared(path: str) -> ctypes.CDLL:
             raise _another(path, f"has no {name}")
         call.restype = gives
         call.argtypes = takes
-    # A library of another first version number can have the same names and other structs, whose values would be put to wrong places and
-    # taken from there, in silence. So one answer that is known is looked at, of a call that takes no pointer: by a record by two points
-    # at attenuation 2, which goes by its line. Version 2 had in the attenuation's place whether the lookup is used, and answers 3134;
-    # version 1 had a shorter refusal besides, and the millivolts before their place here.
-    known = calls.skv_convert(raw.SkvLineRecord(52798, 142, 1100, 0, 2, 0), raw.SkvCount(4095))
-    if (bytes(known.refusal), known.voltage.mv) != (bytes(3), 3441):
-        raise _another(path, "has structs of another form")
+    # A library of another first version number can have the same names and take and give other things, which would be put to wrong places
+    # and taken from there, in silence. So one answer that is known is looked at: an empty list of block lengths is refused with 20. The
+    # versions before take that list for the map, and as it is empty they read nothing of it; none of them has a refusal 20.
+    known = calls.skv_check_map(0, b"", 0, b"", 0)
+    if bytes(known.refusal) != bytes((NO_LENGTHS, 0, 0)):
+        raise _another(path, "answers as another version does")
     return calls
 
 

@@ -6,7 +6,7 @@ from typing import TYPE_CHECKING, Any, Iterable, SupportsIndex, Tuple, Type, Uni
 
 from . import raw
 from .arrays import Numbers, looked_up, written, written_lent
-from .lent import Bytes, DumpSource, bytes_lent, dump_lent
+from .lent import Bytes, DumpSource, Lengths, bytes_lent, dump_lent, lengths_lent
 from .library import ask
 from .units import Millivolt, Source, count, held
 
@@ -82,8 +82,8 @@ class LineRecord:
         raise ValueError("this record was stored before version 3.0, without its attenuation and its source: decode its board again")
 
 
-def decode(dump: DumpSource, field_map: Bytes, unit: SupportsIndex, attenuation: SupportsIndex) -> LineRecord:
-    """The line record of a dump's unit at an attenuation. Refusals 1, 7, the map's, 9."""
-    lent = (*dump_lent(dump), *bytes_lent(field_map))
+def decode(dump: DumpSource, lengths: Lengths, field_map: Bytes, unit: SupportsIndex, attenuation: SupportsIndex) -> LineRecord:
+    """The line record of a dump's unit at an attenuation. Refusals 1, 20, 7, the map's, 9."""
+    lent = (*dump_lent(dump), *lengths_lent(lengths), *bytes_lent(field_map))
     found = ask("skv_decode", *lent, held("a unit", unit, 8), held("an attenuation", attenuation, 8)).record
     return LineRecord(found.coeff_a, found.coeff_b, found.vref, found.unit, found.attenuation, Source(found.source))

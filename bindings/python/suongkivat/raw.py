@@ -6,13 +6,15 @@ from __future__ import annotations
 import ctypes
 from ctypes import POINTER, c_char_p, c_int32, c_size_t, c_uint8, c_uint16, c_uint32
 
-VERSION = "3.0"
+VERSION = "4.0"
 DUMP_WORDS = 88
+BLOCKS = 11
 ESP32_MAP_BYTES = 48
 S2_MAP_BYTES = 16
 C6_MAP_BYTES = 120
 SAMPLE_BYTES = 4
 COUNTS = 4096
+EIGHTS = bytes([8] * BLOCKS)
 
 
 class SkvRefusal(ctypes.Structure):
@@ -89,41 +91,42 @@ class SkvNext(ctypes.Structure):
 # Lent memory is two parameters. Bytes that a call only reads are Python's own bytes.
 DUMP = (POINTER(c_uint32), c_size_t)
 BYTES = (c_char_p, c_size_t)
+LENGTHS = BYTES
 WRITTEN_BYTES = (POINTER(c_uint8), c_size_t)
 WRITTEN_MILLIVOLTS = (POINTER(c_uint16), c_size_t)
 UNIT_ATTENUATION = (c_uint8, c_uint8)
 
 # What each call gives, then what it takes.
 CALLS = {
-    "skv_read_field_u8": (SkvRead, *DUMP, SkvField),
-    "skv_read_field_u16": (SkvRead, *DUMP, SkvField),
-    "skv_read_field_u32": (SkvRead, *DUMP, SkvField),
-    "skv_read_field_le": (SkvOutcome, *DUMP, SkvField, *WRITTEN_BYTES),
-    "skv_view": (SkvView, *DUMP, *DUMP, c_uint8, c_uint8),
-    "skv_check_map": (SkvOutcome, c_uint8, *BYTES),
-    "skv_decode": (SkvDecoded, *DUMP, *BYTES, *UNIT_ATTENUATION),
+    "skv_read_field_u8": (SkvRead, *DUMP, *LENGTHS, SkvField),
+    "skv_read_field_u16": (SkvRead, *DUMP, *LENGTHS, SkvField),
+    "skv_read_field_u32": (SkvRead, *DUMP, *LENGTHS, SkvField),
+    "skv_read_field_le": (SkvOutcome, *DUMP, *LENGTHS, SkvField, *WRITTEN_BYTES),
+    "skv_view": (SkvView, *DUMP, *DUMP, *LENGTHS, c_uint8, c_uint8),
+    "skv_check_map": (SkvOutcome, c_uint8, *LENGTHS, *BYTES),
+    "skv_decode": (SkvDecoded, *DUMP, *LENGTHS, *BYTES, *UNIT_ATTENUATION),
     "skv_check_record": (SkvOutcome, SkvLineRecord),
     "skv_convert": (SkvVoltage, SkvLineRecord, SkvCount),
     "skv_fill": (SkvOutcome, SkvLineRecord, SkvCount, *WRITTEN_MILLIVOLTS),
-    "skv_s2_version": (SkvVersion, *DUMP, *BYTES),
-    "skv_s2_reading_vlow": (SkvReading, *DUMP, c_uint8, *UNIT_ATTENUATION),
-    "skv_s2_reading_vhigh": (SkvReading, *DUMP, c_uint8, *UNIT_ATTENUATION),
-    "skv_s2_reading_vinit": (SkvReading, *DUMP, c_uint8, *UNIT_ATTENUATION),
+    "skv_s2_version": (SkvVersion, *DUMP, *LENGTHS, *BYTES),
+    "skv_s2_reading_vlow": (SkvReading, *DUMP, *LENGTHS, c_uint8, *UNIT_ATTENUATION),
+    "skv_s2_reading_vhigh": (SkvReading, *DUMP, *LENGTHS, c_uint8, *UNIT_ATTENUATION),
+    "skv_s2_reading_vinit": (SkvReading, *DUMP, *LENGTHS, c_uint8, *UNIT_ATTENUATION),
     "skv_s2_skipped_vlow": (SkvReading, c_uint8, *UNIT_ATTENUATION),
     "skv_s2_skipped_vhigh": (SkvReading, c_uint8, *UNIT_ATTENUATION),
     "skv_s2_skipped_vinit": (SkvReading, c_uint8, *UNIT_ATTENUATION),
-    "skv_s2_init_code": (SkvCode, *DUMP, *BYTES, *UNIT_ATTENUATION),
-    "skv_s2_cal_code": (SkvCode, *DUMP, *BYTES, *UNIT_ATTENUATION),
+    "skv_s2_init_code": (SkvCode, *DUMP, *LENGTHS, *BYTES, *UNIT_ATTENUATION),
+    "skv_s2_cal_code": (SkvCode, *DUMP, *LENGTHS, *BYTES, *UNIT_ATTENUATION),
     "skv_s2_cal_mv": (SkvVoltage, *UNIT_ATTENUATION),
-    "skv_s2_flash_encryption": (SkvFlashEncryption, *DUMP, *BYTES),
+    "skv_s2_flash_encryption": (SkvFlashEncryption, *DUMP, *LENGTHS, *BYTES),
     "skv_c6_version": (c_uint8, c_uint8),
-    "skv_c6_init_code": (SkvCode, *DUMP, *BYTES, c_uint8, *UNIT_ATTENUATION),
-    "skv_c6_cal_code": (SkvCode, *DUMP, *BYTES, c_uint8, *UNIT_ATTENUATION),
-    "skv_c6_get_chan_compens": (SkvReading, *DUMP, *BYTES, c_uint8, c_uint8, c_uint8),
+    "skv_c6_init_code": (SkvCode, *DUMP, *LENGTHS, *BYTES, c_uint8, *UNIT_ATTENUATION),
+    "skv_c6_cal_code": (SkvCode, *DUMP, *LENGTHS, *BYTES, c_uint8, *UNIT_ATTENUATION),
+    "skv_c6_get_chan_compens": (SkvReading, *DUMP, *LENGTHS, *BYTES, c_uint8, c_uint8, c_uint8),
     "skv_c6_cal_mv": (SkvVoltage, c_uint8, *UNIT_ATTENUATION),
     "skv_correct": (SkvVoltage, c_uint8, c_uint8, *UNIT_ATTENUATION, SkvMillivolt),
     "skv_next_sample": (SkvNext, *BYTES),
-    "skv_sample": (SkvVoltage, SkvSample, *DUMP, *DUMP, *BYTES),
+    "skv_sample": (SkvVoltage, SkvSample, *DUMP, *DUMP, *LENGTHS, *BYTES),
 }
 
 # The calls that take a map: a refusal of one of its records tells which.

@@ -16,8 +16,8 @@ WORDS = {
     ),
     4: ("block above 10", "mend the block"),
     5: (
-        "bit start above 255, or start + count above 256",
-        "mend bit start or count: a field stays inside its block",
+        "bit start above 255, or start + count past the block's own length, 32 bits a word",
+        "mend bit start or count: a field stays inside its block; see that the list of block lengths is this chip's",
     ),
     6: ("a map record's bit count isn't its id's", "mend the count by the table of ids"),
     7: ("unit above 1 or attenuation above 3", "ask for a unit and an attenuation that exist"),
@@ -47,18 +47,23 @@ WORDS = {
         "a byte among a map record's last three isn't zero",
         "mend that byte: it is zero in every record; look for a shifted byte",
     ),
+    20: (
+        "the list of block lengths isn't eleven, or one of them is above 8",
+        "take this chip's list of block lengths, whole: eleven bytes, each 0 to 8",
+    ),
 }
 
+BIT_RANGE = 5
 MAP_BYTE = 18
-# The refusals of one record of a map, in their order. Reading a field gives 4 and 5 too, and a view 4, but of no record.
-OF_A_RECORD = 3, MAP_BYTE, 4, 5, 6
+# The refusals of one record of a map, in their order. Reading a field gives 4 and 5 too, a view 4 and an S2's reading 5, but of no record.
+OF_A_RECORD = 3, MAP_BYTE, 4, BIT_RANGE, 6
 
 
 class Refused(ValueError):
     """A call was turned down. `number` says why, by the table of docs/RULES.md; `words` says it in words, and `advice` what to do.
 
-    `record` is the number of the map's first bad record, from 0, where a call that takes a map gives 3, 18, 4, 5 or 6; else None. `place`
-    is at 18 that of this record's first byte that should be zero and isn't, 5, 6 or 7; else None.
+    `record` is the number of the map's first bad record, from 0, where a call that takes a map gives 3, 18, 4, 5 or 6 for one of them; else
+    None. `place` is at 18 that of this record's first byte that should be zero and isn't, 5, 6 or 7; else None.
 
     `at` is the place of the first count that was refused, where many were handed in at once; else None.
     """

@@ -9,6 +9,7 @@ import tempfile
 import unittest
 
 import suongkivat
+from suongkivat import EIGHTS
 
 from .project import CRATES, ROOT, field_map
 
@@ -17,11 +18,12 @@ MISSING = 255
 BIT_COUNTS = 5, 1, 7, 7, 9, 9
 
 
-def lines(field, reference, map_bytes, log):
-    """What the desk program writes, by the binding."""
+def lines(field, reference, lengths, map_bytes, log):
+    """What the desk program writes, by the binding; without a list of lengths, as with eleven eights."""
     written = []
+    by = EIGHTS if lengths is None else lengths
     try:
-        for answer in suongkivat.Session(field, reference, map_bytes).answers(log):
+        for answer in suongkivat.Session(field, reference, by, map_bytes).answers(log):
             board = "FR"[answer.sample.board] if answer.sample.board < 2 else "?"
             told = answer.millivolts if answer.refused is None else f"refused {answer.refused.number}"
             written.append(f"{answer.number} {board} {answer.sample.raw} {told}\n")
@@ -58,6 +60,18 @@ def noise_log(draw):
     return bytes(log) + bytes(draw.randrange(4) if draw.random() < 0.3 else 0)
 
 
+def noise_lengths(draw):
+    """A list of lengths, or none: mostly eights with a shorter block or two; now and then a length above 8, or another number of them."""
+    if draw.random() < 0.4:
+        return None
+    lengths = [8] * 11
+    for _ in range(draw.randrange(3)):
+        lengths[draw.randrange(11)] = draw.randrange(9)
+    if draw.random() < 0.15:
+        lengths[draw.randrange(11)] = draw.randrange(9, 256)
+    return bytes(lengths[: draw.choice((0, 10))] if draw.random() < 0.1 else lengths)
+
+
 class Desk(unittest.TestCase):
     maxDiff = 2000
 
@@ -68,7 +82,7 @@ class Desk(unittest.TestCase):
         for at in range(0, len(cases), 4):
             named = zip("ddms", cases[at : at + 4])
             files = [b"" if number == MISSING else (data / f"{kind}{number:03}").read_bytes() for kind, number in named]
-            written.append(f"case {at // 4}\n" + lines(*files))
+            written.append(f"case {at // 4}\n" + lines(*files[:2], EIGHTS, *files[2:]))
         self.assertGreaterEqual(len(written), 102)
         self.assertEqual("".join(written), (CRATES / "desk_cases/stdout").read_text())
 
@@ -77,10 +91,11 @@ class Desk(unittest.TestCase):
         seen = set()
         for k in range(seed, seed + FOLDERS):
             draw = random.Random(k)
-            files = noise_dump(draw), noise_dump(draw), noise_map(draw), noise_log(draw)
+            files = noise_dump(draw), noise_dump(draw), noise_lengths(draw), noise_map(draw), noise_log(draw)
             with tempfile.TemporaryDirectory() as room:
-                for name, data in zip(("field", "reference", "map", "samples"), files):
-                    pathlib.Path(room, f"{name}.bin").write_bytes(data)
+                for name, data in zip(("field", "reference", "lengths", "map", "samples"), files):
+                    if data is not None:
+                        pathlib.Path(room, f"{name}.bin").write_bytes(data)
                 desk = subprocess.run([str(ROOT / "skv"), "desk", room], stdout=subprocess.PIPE, stderr=subprocess.PIPE)
             self.assertIn(desk.returncode, (0, 1), desk.stderr)
             ours = lines(*files)

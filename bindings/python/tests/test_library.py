@@ -100,24 +100,22 @@ class Library(unittest.TestCase):
         status, written, told = self.told()
         return status, (written + told).replace(str(path), "IT")
 
-    def told_of_forms(self, refusal, record, lookup):
-        """The same of a library with every call, whose structs have those bytes; it converts the last count of one record alone."""
-        others = "".join(f"void {name}(void) {{}}\n" for name in raw.CALLS if name != "skv_convert")
+    def told_of_forms(self, refusal, takes, number):
+        """The same of a library with every call, whose refusals have those bytes; it checks a map, which it never reads."""
+        others = "".join(f"void {name}(void) {{}}\n" for name in raw.CALLS if name != "skv_check_map")
         return self.told_of(
             f"""{others}
-            struct answer {{ unsigned char {refusal}; unsigned short mv; }};
-            struct record {{ unsigned coeff_a, coeff_b, vref; unsigned char {record}; }};
-            struct count {{ unsigned short raw; }};
-            struct answer skv_convert(struct record r, struct count c)
+            struct outcome {{ unsigned char {refusal}; }};
+            struct outcome skv_check_map(unsigned char chip, {takes})
             {{
-                struct answer a = {{0}};
-                a.mv = c.raw != 4095 ? 0 : {lookup} ? 3134 : 3441;
-                return a;
+                struct outcome o = {{0}};
+                o.number = {number};
+                return o;
             }}"""
         )
 
     def is_another(self, told):
-        why = f"IT has structs of another form, so it isn't the library of this package's version, {raw.VERSION}"
+        why = f"IT answers as another version does, so it isn't the library of this package's version, {raw.VERSION}"
         self.assertEqual((told[0], told[1].splitlines()[0]), (1, f"suongkivat: {why}"))
 
     def test_another_library(self):
@@ -126,16 +124,20 @@ class Library(unittest.TestCase):
         self.assertIn("IT has no skv_", told)
 
     def test_a_library_of_these_forms(self):
-        told = self.told_of_forms("number, record, place", "unit, attenuation, source", "r.attenuation == 3")
+        """The list of block lengths comes before the map, and is looked at before it."""
+        takes = "const char *lengths, unsigned long listed, const char *map, unsigned long mapped"
+        told = self.told_of_forms("number, record, place", takes, "listed != 11 ? 20 : mapped != 48 ? 2 : 0")
         self.assertEqual((told[0], told[1].splitlines()[1]), (0, "library: IT"))
 
     def test_a_library_of_version_1(self):
-        """It had the same names. A refusal was its number alone, so that the millivolts began at byte 2: that is enough."""
-        self.is_another(self.told_of_forms("number", "unit, attenuation, source", "r.attenuation == 3"))
+        """It had the same names. A refusal was its number alone."""
+        self.is_another(self.told_of_forms("number", "const char *map, unsigned long mapped", "mapped != 48 ? 2 : 0"))
 
-    def test_a_library_of_version_2(self):
-        """It had the same names and the same answers. A record had at byte 13 whether the lookup is used, and nothing behind it."""
-        self.is_another(self.told_of_forms("number, record, place", "unit, use_lut", "r.use_lut"))
+    def test_a_library_of_version_2_or_3(self):
+        """They had the same names, and refusals of this form; no call took a list of block lengths."""
+        self.is_another(
+            self.told_of_forms("number, record, place", "const char *map, unsigned long mapped", "mapped != 48 ? 2 : 0")
+        )
 
     def test_words(self):
         self.assertEqual(self.told("--help")[0], 0)

@@ -7,7 +7,7 @@ import unittest
 from array import array
 
 import suongkivat
-from suongkivat import LineRecord, c6, s2
+from suongkivat import EIGHTS, LineRecord, c6, s2
 
 from .project import CRATES, answered, number_of, told
 
@@ -59,14 +59,14 @@ class Lists(unittest.TestCase):
             lent, block, start, count, number, at8, at16, at32 = struct.unpack("<BBHHBBH2xI", case)
             dump = suongkivat.Dump(words[:lent])
             reads = suongkivat.read_field_u8, suongkivat.read_field_u16, suongkivat.read_field_u32
-            return [answered(read, dump, block, start, count) for read in reads], [(number, at) for at in (at8, at16, at32)]
+            return [answered(read, dump, EIGHTS, block, start, count) for read in reads], [(number, at) for at in (at8, at16, at32)]
 
         self.replay("efuse_cases", "fields", 16, same, 256)
 
     def test_bytes(self):
         def same(words, case):
             lent, block, start, count, n, number = struct.unpack_from("<BBHHBB", case)
-            got = answered(suongkivat.read_field_le, words[:lent], block, start, count, n)
+            got = answered(suongkivat.read_field_le, words[:lent], EIGHTS, block, start, count, n)
             return got, (number, 0 if number else case[8 : 8 + n])
 
         self.replay("efuse_cases", "bytes", 48, same, 64)
@@ -79,7 +79,7 @@ class Lists(unittest.TestCase):
             which, length, at, byte, at2, byte2, number, record, place = case
             changed = bytearray(good[128 * which + 8 : 128 * which + 128] + bytes(256))
             changed[at], changed[at2] = byte, byte2
-            got = told(suongkivat.check_map, chips[good[128 * which]], changed[:length])
+            got = told(suongkivat.check_map, chips[good[128 * which]], EIGHTS, changed[:length])
             return got, listed(number, record, place, 0 if number else None)
 
         self.replay("efuse_cases", "maps", 9, same)
@@ -88,8 +88,8 @@ class Lists(unittest.TestCase):
         def same(words, case):
             length, lent, unit, attenuation, number, source, vref, a, b, record, place = struct.unpack_from("<BBBBBBHIIBB", case, 48)
             line = LineRecord(a, b, vref, unit, attenuation, source)
-            got = told(suongkivat.decode, words[:lent], case[:length], unit, attenuation)
-            board = suongkivat.Board(words[:lent], case[:length])
+            got = told(suongkivat.decode, words[:lent], EIGHTS, case[:length], unit, attenuation)
+            board = suongkivat.Board(words[:lent], EIGHTS, case[:length])
             self.assertEqual(told(board.record, unit, attenuation), got)
             return got, listed(number, record, place, 0 if number else line)
 
@@ -146,12 +146,12 @@ class Lists(unittest.TestCase):
             length, lent, call, version, unit, attenuation, parameter, number, value, *where = struct.unpack_from("<8BiBB", case, 16)
             dump, field_map = words[:lent], case[:length]
             asked = (
-                (s2.version, dump, field_map),
-                (s2.flash_encryption, dump, field_map),
-                (readings[parameter], dump, version, unit, attenuation),
+                (s2.version, dump, EIGHTS, field_map),
+                (s2.flash_encryption, dump, EIGHTS, field_map),
+                (readings[parameter], dump, EIGHTS, version, unit, attenuation),
                 (skipped[parameter], version, unit, attenuation),
-                (s2.init_code, dump, field_map, unit, attenuation),
-                (s2.cal_code, dump, field_map, unit, attenuation),
+                (s2.init_code, dump, EIGHTS, field_map, unit, attenuation),
+                (s2.cal_code, dump, EIGHTS, field_map, unit, attenuation),
                 (s2.cal_mv, unit, attenuation),
             )[call]
             return told(*asked), listed(number, *where, value)
@@ -168,9 +168,9 @@ class Lists(unittest.TestCase):
             dump, field_map = words[:lent], changed[:length]
             asked = (
                 (c6.version, minor),
-                (c6.init_code, dump, field_map, minor, unit, attenuation),
-                (c6.cal_code, dump, field_map, minor, unit, attenuation),
-                (c6.get_chan_compens, dump, field_map, unit, channel, attenuation),
+                (c6.init_code, dump, EIGHTS, field_map, minor, unit, attenuation),
+                (c6.cal_code, dump, EIGHTS, field_map, minor, unit, attenuation),
+                (c6.get_chan_compens, dump, EIGHTS, field_map, unit, channel, attenuation),
                 (c6.cal_mv, minor, unit, attenuation),
             )[call]
             return told(*asked), listed(number, *where, value)

@@ -6,7 +6,7 @@ from array import array
 from unittest import mock
 
 import suongkivat
-from suongkivat import Board, Chip, Count, Dump, LineRecord, Millivolt, Source, arrays, c6, s2
+from suongkivat import EIGHTS, Board, Chip, Count, Dump, LineRecord, Millivolt, Source, arrays, c6, s2
 
 from .project import DAY, answered, number_of
 
@@ -21,10 +21,10 @@ class TooLarge(unittest.TestCase):
 
     def test_units_and_counts(self):
         for large in 256, 256 + 3, 65536, HUGE:
-            self.assertEqual(number_of(suongkivat.decode, FIELD, MAP, large, 0), 7)
-            self.assertEqual(number_of(suongkivat.decode, FIELD, MAP, 0, large), 7)
-            self.assertEqual(number_of(suongkivat.read_field_u8, FIELD, large, 0, 1), 4)
-            self.assertEqual(number_of(suongkivat.check_map, large, MAP), 2)
+            self.assertEqual(number_of(suongkivat.decode, FIELD, EIGHTS, MAP, large, 0), 7)
+            self.assertEqual(number_of(suongkivat.decode, FIELD, EIGHTS, MAP, 0, large), 7)
+            self.assertEqual(number_of(suongkivat.read_field_u8, FIELD, EIGHTS, large, 0, 1), 4)
+            self.assertEqual(number_of(suongkivat.check_map, large, EIGHTS, MAP), 2)
             self.assertEqual(number_of(suongkivat.correct, large, 0, 0, 0), 14)
             self.assertEqual(number_of(s2.cal_mv, large, 0), 7)
             self.assertEqual(c6.version(large), 2)
@@ -32,8 +32,8 @@ class TooLarge(unittest.TestCase):
             self.assertEqual(number_of(RECORD.convert, large), 8)
             self.assertEqual(number_of(RECORD.table, large, 0), 11)
             self.assertEqual(number_of(RECORD.table, 0, large), 11)
-            self.assertEqual(number_of(suongkivat.read_field_u8, FIELD, 0, large, 0), 5)
-            self.assertEqual(number_of(suongkivat.read_field_u8, FIELD, 0, 0, large), 5)
+            self.assertEqual(number_of(suongkivat.read_field_u8, FIELD, EIGHTS, 0, large, 0), 5)
+            self.assertEqual(number_of(suongkivat.read_field_u8, FIELD, EIGHTS, 0, 0, large), 5)
             self.assertEqual(number_of(suongkivat.correct, Chip.C3, 0, 0, large), 13)
         for part, bits in zip(("coeff_a", "coeff_b", "vref", "unit", "attenuation", "source"), (32, 32, 32, 8, 8, 8)):
             for large in 1 << bits, HUGE:
@@ -41,14 +41,14 @@ class TooLarge(unittest.TestCase):
                 self.assertEqual(number_of(bad.check), 10, bad)
 
     def test_below_zero(self):
-        session = suongkivat.Session(FIELD, FIELD, MAP)
+        session = suongkivat.Session(FIELD, FIELD, EIGHTS, MAP)
         for call in (
-            lambda: suongkivat.decode(FIELD, MAP, -1, 0),
-            lambda: suongkivat.decode(FIELD, MAP, 0, -256),
+            lambda: suongkivat.decode(FIELD, EIGHTS, MAP, -1, 0),
+            lambda: suongkivat.decode(FIELD, EIGHTS, MAP, 0, -256),
             lambda: RECORD.convert(-1),
             lambda: RECORD.millivolts([0, -1]),
             lambda: RECORD.table(0, -1),
-            lambda: suongkivat.read_field_le(FIELD, 0, 0, 8, -1),
+            lambda: suongkivat.read_field_le(FIELD, EIGHTS, 0, 0, 8, -1),
             lambda: LineRecord(-1, 0, 1100, 0, 3, 0),
             lambda: LineRecord(0, 0, 1100, 0, -1, 0),
             lambda: LineRecord(0, 0, 1100, 0, 3, -1),
@@ -73,8 +73,8 @@ class TooLarge(unittest.TestCase):
             lambda: RECORD.fill(0, bytearray(2)),
             lambda: RECORD.fill(0, array("h", [0])),
             lambda: RECORD.fill(0, memoryview(array("H", [0, 0, 0]))[::2]),
-            lambda: Board(5, MAP),
-            lambda: Board(FIELD, array("H", [0])),
+            lambda: Board(5, EIGHTS, MAP),
+            lambda: Board(FIELD, EIGHTS, array("H", [0])),
         ):
             self.assertRaises(TypeError, call)
 
@@ -126,10 +126,10 @@ class Many(unittest.TestCase):
     def test_empty_memory(self):
         RECORD.fill(0, array("H"))
         self.assertEqual(number_of(RECORD.fill, 4097, array("H")), 11)
-        self.assertEqual(suongkivat.read_field_le(FIELD, 0, 0, 8, 0), b"")
+        self.assertEqual(suongkivat.read_field_le(FIELD, EIGHTS, 0, 0, 8, 0), b"")
 
     def test_a_board(self):
-        board = Board(FIELD, MAP)
+        board = Board(FIELD, EIGHTS, MAP)
         records = list(board.records())
         self.assertEqual([(record.unit, record.attenuation) for record in records], [(k // 4, k % 4) for k in range(8)])
         self.assertEqual(board.record(1, 2), records[6])
@@ -150,14 +150,15 @@ class Dumps(unittest.TestCase):
         with tempfile.NamedTemporaryFile() as file:
             file.write(MAP)
             file.flush()
-            self.assertEqual(Board(FIELD, file.name).record(0, 3), Board(FIELD, MAP).record(0, 3))
+            self.assertEqual(Board(FIELD, EIGHTS, file.name).record(0, 3), Board(FIELD, EIGHTS, MAP).record(0, 3))
 
     def test_other_lengths(self):
         for length in 0, 1, 351, 353, 348, 356, 704:
             self.assertEqual(len(Dump(bytes(length))), 0)
-            self.assertEqual(answered(Board(bytes(length), MAP).record, 2, 0), (1, 0))
-        self.assertEqual(number_of(suongkivat.decode, [0] * 87, MAP, 0, 0), 1)
-        self.assertEqual(number_of(suongkivat.decode, [0] * 89, MAP, 0, 0), 1)
+            self.assertEqual(answered(Board(bytes(length), EIGHTS, MAP).record, 2, 0), (1, 0))
+        self.assertEqual(number_of(suongkivat.decode, [0] * 87, EIGHTS, MAP, 0, 0), 1)
+        self.assertEqual(number_of(suongkivat.decode, [0] * 89, EIGHTS, MAP, 0, 0), 1)
 
     def test_a_missing_file_is_no_empty_one(self):
-        self.assertRaises(FileNotFoundError, Board, "no-such-file", MAP)
+        self.assertRaises(FileNotFoundError, Board, "no-such-file", EIGHTS, MAP)
+        self.assertRaises(FileNotFoundError, Board, FIELD, "no-such-file", MAP)

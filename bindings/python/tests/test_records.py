@@ -9,7 +9,7 @@ import unittest
 from array import array
 
 import suongkivat
-from suongkivat import Board, LineRecord, Source, raw
+from suongkivat import EIGHTS, Board, LineRecord, Source, raw
 from suongkivat.library import loaded
 
 from .project import DAY, number_of
@@ -42,7 +42,7 @@ class Sources(unittest.TestCase):
     """The day's field board has two points, its reference board has not."""
 
     def records(self, name):
-        return list(Board(DAY / f"{name}.bin", MAP).records())
+        return list(Board(DAY / f"{name}.bin", EIGHTS, MAP).records())
 
     def test_a_record_says_where_it_came_from(self):
         for name, source in ("field", Source.TWO_POINT), ("reference", Source.VREF):
@@ -108,7 +108,7 @@ class Taken(unittest.TestCase):
     def test_zeros_beside_a_refused_decoding(self):
         dump = suongkivat.Dump(DAY / "reference.bin").lent
         for length, unit, attenuation, number in (48, 2, 3, 7), (48, 1, 4, 7), (47, 1, 3, 2):
-            decoded = loaded().calls.skv_decode(*dump, MAP, length, unit, attenuation)
+            decoded = loaded().calls.skv_decode(*dump, EIGHTS, 11, MAP, length, unit, attenuation)
             parts = [getattr(decoded.record, name) for name, _ in raw.SkvLineRecord._fields_]
             self.assertEqual((decoded.refusal.number, parts), (number, [0] * 6))
 

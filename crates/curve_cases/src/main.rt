@@ -13,10 +13,12 @@ fn layout_of(list: List) -> Layout {
         List::Tables => Layout {
             case: 4100,
             per_dump: 0,
+            paired: false,
         },
         List::Single => Layout {
             case: 12,
             per_dump: 0,
+            paired: false,
         },
     }
 }

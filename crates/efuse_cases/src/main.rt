@@ -1,13 +1,19 @@
-// Replays the lists of data/ with the library's field reading and map checking; tests/oracle/README.md has their formats.
+// Replays the lists of data/ with the library's field reading, views and map checking; tests/oracle/README.md has their formats.
 mod fields;
 mod map_checks;
+mod views;
 
 use replay::Layout;
+use replay::lengths;
 
 enum List {
     Fields,
     Bytes,
     Maps,
+    ShortFields,
+    ShortBytes,
+    ShortMaps,
+    Views,
 }
 
 fn layout_of(list: List) -> Layout {
@@ -15,14 +21,37 @@ fn layout_of(list: List) -> Layout {
         List::Fields => Layout {
             case: 16,
             per_dump: 256,
+            paired: false,
         },
         List::Bytes => Layout {
             case: 48,
             per_dump: 64,
+            paired: false,
         },
         List::Maps => Layout {
             case: 9,
             per_dump: 0,
+            paired: false,
+        },
+        List::ShortFields => Layout {
+            case: 32,
+            per_dump: 128,
+            paired: false,
+        },
+        List::ShortBytes => Layout {
+            case: 64,
+            per_dump: 64,
+            paired: false,
+        },
+        List::ShortMaps => Layout {
+            case: 25,
+            per_dump: 0,
+            paired: false,
+        },
+        List::Views => Layout {
+            case: 56,
+            per_dump: 64,
+            paired: true,
         },
     }
 }
@@ -31,13 +60,21 @@ fn layout_of(list: List) -> Layout {
 fn same<'a>(
     list: List,
     words: &'a [u32; replay::WORDS],
+    reference: &'a [u32; replay::WORDS],
     case: &'a [u8; replay::CASE],
     good_maps: &[u8],
 ) -> bool {
+    let eights = lengths::eights();
+    let own = lengths::of(case);
+    let behind = lengths::behind(case);
     match list {
-        List::Fields => fields::same_field(words, case),
-        List::Bytes => fields::same_bytes(words, case),
-        List::Maps => map_checks::same_map(good_maps, case),
+        List::Fields => fields::same_field(words, &eights, case),
+        List::Bytes => fields::same_bytes(words, &eights, case),
+        List::Maps => map_checks::same_map(good_maps, &eights, case),
+        List::ShortFields => fields::same_field(words, own, behind),
+        List::ShortBytes => fields::same_bytes(words, own, behind),
+        List::ShortMaps => map_checks::same_map(good_maps, own, behind),
+        List::Views => views::same_view(words, reference, own, behind),
     }
 }
 
@@ -45,7 +82,7 @@ fn same<'a>(
 fn replay_list(list: List, name: &[u8], good_maps: &[u8]) {
     let mut run = replay::open(name, layout_of(list));
     while 0 < run.left {
-        let same = same(list, &run.words, &run.case, good_maps);
+        let same = same(list, &run.words, &run.reference, &run.case, good_maps);
         run = replay::step(name, run, same);
     }
     replay::close(name, run);
@@ -57,4 +94,8 @@ fn main() {
     replay_list(List::Fields, b"fields", &good_maps);
     replay_list(List::Bytes, b"bytes", &good_maps);
     replay_list(List::Maps, b"maps", &good_maps);
+    replay_list(List::ShortFields, b"short_fields", &good_maps);
+    replay_list(List::ShortBytes, b"short_bytes", &good_maps);
+    replay_list(List::ShortMaps, b"short_maps", &good_maps);
+    replay_list(List::Views, b"views", &good_maps);
 }

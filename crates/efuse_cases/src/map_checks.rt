@@ -1,4 +1,5 @@
-// data/maps: field maps, with the first thing wrong with each, and in which record. A case starts from one of data/good_maps and changes two of its bytes.
+// data/maps and data/short_maps: field maps, with the first thing wrong with each, and in which record. A case starts from one of
+// data/good_maps and changes two of its bytes.
 use maps::map;
 use replay::answer;
 use replay::bytes;
@@ -27,13 +28,13 @@ fn put_change(map: &mut [u8], change: &[u8]) {
 }
 
 // Whether a map is checked as the case says.
-pub(crate) fn same_map(good_maps: &[u8], case: &[u8]) -> bool {
+pub(crate) fn same_map(good_maps: &[u8], lengths: &[u8], case: &[u8]) -> bool {
     let good = bytes::part(good_maps, GOOD * (bytes::number8(case, 0) as usize), GOOD);
     let mut map = [0u8; 128];
     bytes::put(&mut map, 0, bytes::part(good, GOOD_MAP, GOOD));
     put_change(&mut map, bytes::part(case, 2, 2));
     put_change(&mut map, bytes::part(case, 4, 2));
     let lent = bytes::part(&map, 0, bytes::number8(case, 1) as usize);
-    let got = map::check_map(chip_of(bytes::number8(good, 0)), lent);
+    let got = map::check_map(chip_of(bytes::number8(good, 0)), lengths, lent);
     answer::same_outcome(got, answer::told(case, 6, 7))
 }

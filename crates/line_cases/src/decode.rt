@@ -1,4 +1,4 @@
-// data/decode: dumps with their maps, and the line records that are decoded of them.
+// data/decode and data/short_decode: dumps with their maps, and the line records that are decoded of them.
 use crate::handed::source_number;
 use esp32::decode;
 use line_record::decoded::Decoded;
@@ -27,12 +27,12 @@ fn same_refused(decoded: Decoded, why: Refusal, case: &[u8]) -> bool {
 }
 
 // Whether a record is decoded as the case says, or refused.
-pub(crate) fn same_decode(words: &[u32], case: &[u8]) -> bool {
+pub(crate) fn same_decode(words: &[u32], lengths: &[u8], case: &[u8]) -> bool {
     let dump = replay::lent(words, bytes::number8(case, 49));
     let map = bytes::part(case, 0, bytes::number8(case, 48) as usize);
     let unit = bytes::number8(case, 50);
     let atten = bytes::number8(case, 51);
-    let decoded = decode::decode(dump, map, unit, atten);
+    let decoded = decode::decode(dump, lengths, map, unit, atten);
     let why = answer::told(case, 52, 64);
     let Decoded::Record(record) = decoded else {
         return same_refused(decoded, why, case);

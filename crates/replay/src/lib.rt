@@ -2,6 +2,7 @@
 // counting the answers that differ.
 pub mod answer;
 pub mod bytes;
+pub mod lengths;
 
 use bytes::at_most;
 use bytes::number32;
@@ -18,16 +19,20 @@ pub const CASE: usize = 8208;
 // A difference is named where it is one of the first few.
 const MOST_NAMED: u64 = 5;
 
-// How a list is laid out: the bytes of a case, and how many cases follow a dump; 0 where the list has no dumps.
+// How a list is laid out: the bytes of a case, and how many cases follow a dump, 0 where the list has no dumps; and whether dumps come
+// in pairs, of a field board and a reference board.
 pub struct Layout {
     pub case: usize,
     pub per_dump: u64,
+    pub paired: bool,
 }
 
-// A list on its way: the words of the last dump, with zeros behind them, and the case that comes next, at the start of its room.
-// `left` is 0 at the list's end and falls with each case: a loop that runs while it isn't 0 ends.
+// A list on its way: the words of the last dump, with zeros behind them, beside them those of the reference board where dumps come in
+// pairs, and the case that comes next, at the start of its room. `left` is 0 at the list's end and falls with each case: a loop that
+// runs while it isn't 0 ends.
 pub struct Run {
     pub words: [u32; WORDS],
+    pub reference: [u32; WORDS],
     pub case: [u8; CASE],
     pub left: u64,
     fd: i32,
@@ -40,6 +45,7 @@ pub struct Run {
 pub fn open(name: &[u8], layout: Layout) -> Run {
     next(Run {
         words: [0; WORDS],
+        reference: [0; WORDS],
         case: [0; CASE],
         left: u64::MAX,
         fd: os::open_read(name),
@@ -90,7 +96,7 @@ fn name_difference(name: &[u8], case: u64, before: u64) {
     }
 }
 
-// Reads the next case, and before it a dump where one is due.
+// Reads the next case, and before it the dumps that are due.
 fn next(mut run: Run) -> Run
     ensures { λ r. ⌜ r .left ≤ run .left - 1 ⌝ }
 {
@@ -100,11 +106,22 @@ fn next(mut run: Run) -> Run
         let mut words = run.words;
         read_dump(run.fd, &mut words);
         run.words = words;
+        run = with_reference(run, layout.paired);
     }
     let mut case = run.case;
     let whole = read_case(run.fd, layout.case, &mut case);
     run.case = case;
     run.left = left_after(left, whole);
+    run
+}
+
+// Reads the reference board's dump where dumps come in pairs.
+fn with_reference(mut run: Run, paired: bool) -> Run {
+    if paired {
+        let mut words = run.reference;
+        read_dump(run.fd, &mut words);
+        run.reference = words;
+    }
     run
 }
 

@@ -2,6 +2,7 @@
 use oracle::fields::Field;
 use suongkivat::{Attenuation, Count, LineRecord, Sample, Source, Unit};
 
+use crate::fields::Boards;
 use crate::input::Input;
 use crate::library::Library;
 use crate::smaller::smallest;
@@ -24,19 +25,23 @@ impl Input {
         LineRecord { coeff_a, coeff_b, vref, unit: Unit(unit), attenuation: Attenuation(attenuation), source }
     }
 
+    fn boards(&self) -> Boards<'_> {
+        (&self.dumps[0], &self.dumps[1], self.lent_lengths())
+    }
+
     fn sample(&self) -> Sample {
         Sample { raw: Count(self.value("raw")), board: self.value("board"), last: self.value("last byte") }
     }
 }
 
-fn ask(library: &Library, call: &'static str, input: &Input) -> Compared {
-    let tally = &mut Tally::default();
-    let (dumps, bytes) = (&input.dumps, input.lent_bytes());
+/// Compares the answers of a call.
+pub fn ask(library: &Library, tally: &mut Tally, call: &'static str, input: &Input) -> Compared {
+    let bytes = input.lent_bytes();
     match call {
-        "read_field_le" => fields::into_bytes(library, tally, &dumps[0], input.field(), input.value("bytes lent")),
-        "view" => fields::view(library, tally, [&dumps[0], &dumps[1]], input.value("board"), input.value("block")),
-        "check_map" => maps::check(library, tally, input.value("chip"), bytes),
-        "decode" => decode::decode(library, tally, &dumps[0], bytes, input.unit_and_atten()),
+        "read_field_le" => fields::into_bytes(library, tally, input.lent_fuses(), input.field(), input.value("bytes lent")),
+        "view" => fields::view(library, tally, input.boards(), input.value("board"), input.value("block")),
+        "check_map" => maps::check(library, tally, input.value("chip"), input.lent_lengths(), bytes),
+        "decode" => decode::decode(library, tally, input.lent_fuses(), bytes, input.unit_and_atten()),
         "check_record" => records::check(library, tally, input.record()),
         "convert" => convert::convert_one(library, tally, input.record(), input.value("raw")),
         "fill" => fill::stretch(library, tally, input.record(), input.value("first count"), input.value("numbers lent")),
@@ -45,8 +50,8 @@ fn ask(library: &Library, call: &'static str, input: &Input) -> Compared {
             curve::correct(library, tally, chip, input.unit_and_atten(), input.value("line answer"))
         }
         "next_sample" => logs::next(library, tally, bytes),
-        "sample" => logs::sample(library, tally, (&dumps[0], &dumps[1], bytes), input.sample()),
-        _ if call.starts_with("read_field_") => fields::read(library, tally, &dumps[0], input.field()),
+        "sample" => logs::sample(library, tally, (input.boards(), bytes), input.sample()),
+        _ if call.starts_with("read_field_") => fields::read(library, tally, input.lent_fuses(), input.field()),
         _ if call.starts_with("s2_") => ask_s2(library, tally, call, input),
         _ => ask_c6(library, tally, call, input),
     }
@@ -56,12 +61,14 @@ fn ask_s2(library: &Library, tally: &mut Tally, call: &'static str, input: &Inpu
     let bytes = input.lent_bytes();
     let versioned = |input: &Input| (input.value("version"), input.value("unit"), input.value("attenuation"));
     match call {
-        "s2_version" => s2::version(library, tally, &input.dumps[0], bytes),
-        "s2_flash_encryption" => s2::flash_encryption(library, tally, &input.dumps[0], bytes),
-        "s2_init_code" => s2::init_code(library, tally, &input.dumps[0], bytes, input.unit_and_atten()),
-        "s2_cal_code" => s2::cal_code(library, tally, &input.dumps[0], bytes, input.unit_and_atten()),
+        "s2_version" => s2::version(library, tally, input.lent_fuses(), bytes),
+        "s2_flash_encryption" => s2::flash_encryption(library, tally, input.lent_fuses(), bytes),
+        "s2_init_code" => s2::init_code(library, tally, input.lent_fuses(), bytes, input.unit_and_atten()),
+        "s2_cal_code" => s2::cal_code(library, tally, input.lent_fuses(), bytes, input.unit_and_atten()),
         "s2_cal_mv" => s2::cal_mv(library, tally, input.unit_and_atten()),
-        _ if call.starts_with("s2_reading") => s2::reading(library, tally, &input.dumps[0], versioned(input)),
+        "s2_reading_vlow" => s2::reading_of(library, tally, input.lent_fuses(), versioned(input), 0),
+        "s2_reading_vhigh" => s2::reading_of(library, tally, input.lent_fuses(), versioned(input), 1),
+        "s2_reading_vinit" => s2::reading_of(library, tally, input.lent_fuses(), versioned(input), 2),
         _ => s2::skipped(library, tally, versioned(input)),
     }
 }
@@ -71,10 +78,10 @@ fn ask_c6(library: &Library, tally: &mut Tally, call: &'static str, input: &Inpu
     let at = |input: &Input| (input.value("minor"), input.unit_and_atten());
     match call {
         "c6_version" => c6::version(library, tally, input.value("minor")),
-        "c6_init_code" => c6::init_code(library, tally, &input.dumps[0], bytes, at(input)),
-        "c6_cal_code" => c6::cal_code(library, tally, &input.dumps[0], bytes, at(input)),
+        "c6_init_code" => c6::init_code(library, tally, input.lent_fuses(), bytes, at(input)),
+        "c6_cal_code" => c6::cal_code(library, tally, input.lent_fuses(), bytes, at(input)),
         "c6_get_chan_compens" => {
-            c6::compensation(library, tally, &input.dumps[0], bytes, (input.value("channel"), input.unit_and_atten()))
+            c6::compensation(library, tally, input.lent_fuses(), bytes, (input.value("channel"), input.unit_and_atten()))
         }
         "c6_cal_mv" => c6::cal_mv(library, tally, at(input)),
         _ => unreachable!("no call {call}"),
@@ -85,7 +92,8 @@ impl Difference {
     /// The same difference at its smallest input; as it is where the call alone doesn't show it.
     pub fn smallest(self: Box<Self>, library: &Library) -> Box<Self> {
         let call = self.call;
-        let input = smallest(call, self.input.clone(), |input| ask(library, call, input).is_err());
-        ask(library, call, &input).err().unwrap_or(self)
+        let asked = |input: &Input| ask(library, &mut Tally::default(), call, input);
+        let input = smallest(call, self.input.clone(), |input| asked(input).is_err());
+        asked(&input).err().unwrap_or(self)
     }
 }

@@ -5,9 +5,10 @@ use oracle::noise::Noise;
 use oracle::plain::dump_and_map;
 use oracle::rules::{MapChip, RECORD};
 
+use crate::fuses::{Fuses, whole};
 use crate::input::Input;
 use crate::library::Library;
-use crate::strewn::{Strewn, good_units_and_attens, strewn};
+use crate::strewn::{good_units_and_attens, strewn};
 use crate::tally::{Compared, Tally, told};
 
 /// Minor versions: 0 has no calibration, 1 the first, all others the second.
@@ -20,8 +21,8 @@ const FIRST_CHANNEL: usize = 8;
 /// A minor version or a channel, with a unit and an attenuation.
 type At = (u8, (u8, u8));
 
-fn input(dump: &[u32], map: &[u8], (unit, atten): (u8, u8)) -> Input {
-    Input::default().number("unit", unit).number("attenuation", atten).dump(dump).map(map)
+fn input(fuses: Fuses, map: &[u8], (unit, atten): (u8, u8)) -> Input {
+    Input::default().number("unit", unit).number("attenuation", atten).fuses(fuses).map(map)
 }
 
 pub fn version(library: &Library, tally: &mut Tally, minor: u8) -> Compared {
@@ -35,36 +36,40 @@ pub fn cal_mv(library: &Library, tally: &mut Tally, (minor, (unit, atten)): At) 
     tally.same("c6_cal_mv", input, (library.c6_cal_mv)(minor, unit, atten), wanted)
 }
 
-pub fn init_code(library: &Library, tally: &mut Tally, dump: &[u32], map: &[u8], (minor, at): At) -> Compared {
-    let ours = (library.c6_init_code)(dump, map, minor, at.0, at.1);
-    let input = || input(dump, map, at).number("minor", minor);
-    tally.same("c6_init_code", input, ours, || told(answers::c6_init_code(dump, map, minor, at.0, at.1)))
+pub fn init_code(library: &Library, tally: &mut Tally, fuses: Fuses, map: &[u8], (minor, at): At) -> Compared {
+    let Fuses { dump, lengths } = fuses;
+    let ours = (library.c6_init_code)(dump, lengths, map, minor, at.0, at.1);
+    let input = || input(fuses, map, at).number("minor", minor);
+    tally.same("c6_init_code", input, ours, || told(answers::c6_init_code(dump, lengths, map, minor, at.0, at.1)))
 }
 
-pub fn cal_code(library: &Library, tally: &mut Tally, dump: &[u32], map: &[u8], (minor, at): At) -> Compared {
-    let ours = (library.c6_cal_code)(dump, map, minor, at.0, at.1);
-    let input = || input(dump, map, at).number("minor", minor);
-    tally.same("c6_cal_code", input, ours, || told(answers::c6_cal_code(dump, map, minor, at.0, at.1)))
+pub fn cal_code(library: &Library, tally: &mut Tally, fuses: Fuses, map: &[u8], (minor, at): At) -> Compared {
+    let Fuses { dump, lengths } = fuses;
+    let ours = (library.c6_cal_code)(dump, lengths, map, minor, at.0, at.1);
+    let input = || input(fuses, map, at).number("minor", minor);
+    tally.same("c6_cal_code", input, ours, || told(answers::c6_cal_code(dump, lengths, map, minor, at.0, at.1)))
 }
 
-pub fn compensation(library: &Library, tally: &mut Tally, dump: &[u32], map: &[u8], (channel, at): At) -> Compared {
-    let ours = (library.c6_get_chan_compens)(dump, map, at.0, channel, at.1);
-    let input = || input(dump, map, at).number("channel", channel);
-    tally.same("c6_get_chan_compens", input, ours, || told(answers::c6_chan_compens(dump, map, at.0, channel, at.1)))
+pub fn compensation(library: &Library, tally: &mut Tally, fuses: Fuses, map: &[u8], (channel, at): At) -> Compared {
+    let Fuses { dump, lengths } = fuses;
+    let ours = (library.c6_get_chan_compens)(dump, lengths, map, at.0, channel, at.1);
+    let input = || input(fuses, map, at).number("channel", channel);
+    let wanted = || told(answers::c6_chan_compens(dump, lengths, map, at.0, channel, at.1));
+    tally.same("c6_get_chan_compens", input, ours, wanted)
 }
 
 /// Every call that a map's fields answer, by a minor version or of a channel.
 pub fn calls(
     library: &Library,
     tally: &mut Tally,
-    dump: &[u32],
+    fuses: Fuses,
     map: &[u8],
     (minor, channel): (u8, u8),
     at: (u8, u8),
 ) -> Compared {
-    init_code(library, tally, dump, map, (minor, at))?;
-    cal_code(library, tally, dump, map, (minor, at))?;
-    compensation(library, tally, dump, map, (channel, at))
+    init_code(library, tally, fuses, map, (minor, at))?;
+    cal_code(library, tally, fuses, map, (minor, at))?;
+    compensation(library, tally, fuses, map, (channel, at))
 }
 
 /// A minor version, and a channel.
@@ -82,7 +87,7 @@ fn init_codes(library: &Library, tally: &mut Tally) -> Compared {
     for (width, code) in (1..=15).flat_map(|width| (0..1 << width).map(move |code| (width, code))) {
         let (dump, mut map) = dump_and_map(MapChip::C6, &[code; 4]);
         (0..4).for_each(|k| map[RECORD * k + 4] = width);
-        minors().try_for_each(|asked| init_code(library, tally, &dump, &map, asked))?;
+        minors().try_for_each(|asked| init_code(library, tally, whole(&dump), &map, asked))?;
     }
     Ok(())
 }
@@ -93,13 +98,13 @@ fn other_codes(library: &Library, tally: &mut Tally) -> Compared {
         let mut values = [0; 8];
         values[FIRST_CAL..].fill(code);
         let (dump, map) = dump_and_map(MapChip::C6, &values);
-        minors().try_for_each(|asked| cal_code(library, tally, &dump, &map, asked))?;
+        minors().try_for_each(|asked| cal_code(library, tally, whole(&dump), &map, asked))?;
     }
     for (code, channel) in (0..16).flat_map(|code| (0..=255u8).map(move |channel| (code, channel))) {
         let mut values = [0; 15];
         values[FIRST_CHANNEL + usize::from(channel.min(6))] = code;
         let (dump, map) = dump_and_map(MapChip::C6, &values);
-        good_units_and_attens().try_for_each(|at| compensation(library, tally, &dump, &map, (channel, at)))?;
+        good_units_and_attens().try_for_each(|at| compensation(library, tally, whole(&dump), &map, (channel, at)))?;
     }
     Ok(())
 }
@@ -110,12 +115,12 @@ pub fn codes(library: &Library, tally: &mut Tally, noise: &mut Noise) -> Compare
     for _ in 0..20_000 {
         let (dump, map) = (noise.dump(), any_map(noise, MapChip::C6));
         for asked in minors() {
-            init_code(library, tally, &dump, &map, asked)?;
-            cal_code(library, tally, &dump, &map, asked)?;
+            init_code(library, tally, whole(&dump), &map, asked)?;
+            cal_code(library, tally, whole(&dump), &map, asked)?;
         }
         for channel in [0, 1, 2, 3, 4, 5, 6, 7, 255] {
             let at = (noise.below(2) as u8, noise.below(4) as u8);
-            compensation(library, tally, &dump, &map, (channel, at))?;
+            compensation(library, tally, whole(&dump), &map, (channel, at))?;
         }
     }
     Ok(())
@@ -135,8 +140,8 @@ pub fn versions(library: &Library, tally: &mut Tally, _noise: &mut Noise) -> Com
 pub fn refused(library: &Library, tally: &mut Tally, noise: &mut Noise) -> Compared {
     for _ in 0..400_000 {
         let dump = noise.dump();
-        let Strewn { dump, map, unit, atten } = strewn(noise, MapChip::C6, &dump);
-        calls(library, tally, &dump, &map, any_minor_and_channel(noise), (unit, atten))?;
+        let strewn = strewn(noise, MapChip::C6, &dump);
+        calls(library, tally, strewn.fuses(), &strewn.map, any_minor_and_channel(noise), strewn.at)?;
     }
     Ok(())
 }

@@ -6,31 +6,33 @@ use oracle::plain::dump_and_map;
 use oracle::rules::MapChip;
 use oracle::{answers, dumps};
 
+use crate::fuses::{Fuses, whole};
 use crate::input::Input;
 use crate::library::Library;
 use crate::records::our_record;
-use crate::strewn::{Strewn, good_units_and_attens, strewn, units_and_attens};
+use crate::strewn::{good_units_and_attens, strewn, units_and_attens};
 use crate::tally::{Compared, Tally, told};
 use crate::told::Decoded;
 
-pub fn decode(library: &Library, tally: &mut Tally, dump: &[u32], map: &[u8], (unit, atten): (u8, u8)) -> Compared {
-    let input = || Input::default().number("unit", unit).number("attenuation", atten).dump(dump).map(map);
-    let ours = (library.decode)(dump, map, unit, atten);
-    let wanted = || answers::decode(dump, map, unit, atten).map(|record| Decoded::from(our_record(record)));
+pub fn decode(library: &Library, tally: &mut Tally, fuses: Fuses, map: &[u8], (unit, atten): (u8, u8)) -> Compared {
+    let input = || Input::default().number("unit", unit).number("attenuation", atten).fuses(fuses).map(map);
+    let Fuses { dump, lengths } = fuses;
+    let ours = (library.decode)(dump, lengths, map, unit, atten);
+    let wanted = || answers::decode(dump, lengths, map, unit, atten).map(|record| Decoded::from(our_record(record)));
     tally.same("decode", input, ours, || told(wanted()))
 }
 
 /// Codes, each in a word of its own.
 fn plainly(library: &Library, tally: &mut Tally, codes: Codes, at: (u8, u8)) -> Compared {
     let (dump, map) = dump_and_map(MapChip::Esp32, &codes.bits());
-    decode(library, tally, &dump, &map, at)
+    decode(library, tally, whole(&dump), &map, at)
 }
 
 /// Codes in fields anywhere on noise.
 fn scattered(library: &Library, tally: &mut Tally, noise: &mut Noise, codes: Codes, at: (u8, u8)) -> Compared {
     let mut dump = Builder::new(noise.dump());
     let map = codes.place(noise, &mut dump);
-    decode(library, tally, &dump.dump, &map, at)
+    decode(library, tally, whole(&dump.dump), &map, at)
 }
 
 /// Codes that ask for Vref: the reserve bit is 0, or one two-point code is, or all that.
@@ -88,8 +90,8 @@ pub fn two_point(library: &Library, tally: &mut Tally, noise: &mut Noise) -> Com
 pub fn refused(library: &Library, tally: &mut Tally, noise: &mut Noise) -> Compared {
     for round in 0..1_000_000 {
         let dump = if round % 8 == 0 { dumps::ONES } else { noise.dump() };
-        let Strewn { dump, map, unit, atten } = strewn(noise, MapChip::Esp32, &dump);
-        decode(library, tally, &dump, &map, (unit, atten))?;
+        let strewn = strewn(noise, MapChip::Esp32, &dump);
+        decode(library, tally, strewn.fuses(), &strewn.map, strewn.at)?;
     }
     Ok(())
 }

@@ -2,12 +2,13 @@
 use oracle::codes::Codes;
 use oracle::noise::Noise;
 use oracle::plain::dump_and_map;
-use oracle::rules::MapChip;
+use oracle::rules::{EIGHTS, MapChip};
 use oracle::{document, line};
 use suongkivat::Millivolt;
 
 use crate::decode::{decode, pairs};
 use crate::fill::at_once;
+use crate::fuses::whole;
 use crate::library::Library;
 use crate::records::crates;
 use crate::strewn::good_units_and_attens;
@@ -23,8 +24,8 @@ pub fn firmware(library: &Library, tally: &mut Tally, noise: &mut Noise) -> Comp
             }
             let codes = Codes::any(noise, 1).with(unit, low, high);
             let (dump, map) = dump_and_map(MapChip::Esp32, &codes.bits());
-            decode(library, tally, &dump, &map, (unit, atten))?;
-            let decoded = (library.decode)(&dump, &map, unit, atten);
+            decode(library, tally, whole(&dump), &map, (unit, atten))?;
+            let decoded = (library.decode)(&dump, &EIGHTS, &map, unit, atten);
             if decoded.refused == Refused::NOT {
                 let record = decoded.value.in_rust;
                 let table = line::table_plain(crates(record)).expect("a plain build doesn't panic");

@@ -62,9 +62,9 @@ fn place(part: &[u32], field: &[u32], reference: &[u32]) -> (u8, u32, u32) {
     (board, first as u32, part.len() as u32)
 }
 
-fn viewed(field: &[u32], reference: &[u32], board: u8, block: u8) -> View {
-    let answer = Session { field, reference }.view(board, block);
-    let beside = raw::view(field, reference, board, block);
+fn viewed(field: &[u32], reference: &[u32], lengths: &[u8], board: u8, block: u8) -> View {
+    let answer = Session { field, reference, lengths }.view(board, block);
+    let beside = raw::view(field, reference, lengths, board, block);
     let refused = refused(&answer, beside.refusal);
     let part = answer.map(|part| place(part, field, reference));
     let (board, first, words) = part.unwrap_or((beside.board, beside.first, beside.words));
@@ -77,9 +77,9 @@ fn bytes(record: LineRecord) -> [u8; 15] {
     unsafe { *std::ptr::from_ref(&record).cast() }
 }
 
-fn decoded(dump: &[u32], map: &[u8], unit: u8, atten: u8) -> Told<Decoded> {
-    let answer = LineRecord::decode(dump, map, Unit(unit), Attenuation(atten));
-    let beside = raw::decode(dump, map, unit, atten);
+fn decoded(dump: &[u32], lengths: &[u8], map: &[u8], unit: u8, atten: u8) -> Told<Decoded> {
+    let answer = LineRecord::decode(dump, lengths, map, Unit(unit), Attenuation(atten));
+    let beside = raw::decode(dump, lengths, map, unit, atten);
     let refused = refused(&answer, beside.refusal);
     Told { refused, value: Decoded { in_rust: answer.unwrap_or(beside.record), in_c: bytes(beside.record) } }
 }
@@ -95,20 +95,23 @@ fn next(log: &[u8]) -> Next {
 
 // A call that writes is asked in C's terms on a copy of what it is lent, so that what stands there is the binding's alone.
 library! {
-    read_field_u8(dump: &[u32], field: Field) -> Told<u32> =
-        told(ours(field).read_u8(dump).map(u32::from), in_c!(read_field_u8(dump, ours(field)).value));
-    read_field_u16(dump: &[u32], field: Field) -> Told<u32> =
-        told(ours(field).read_u16(dump).map(u32::from), in_c!(read_field_u16(dump, ours(field)).value));
-    read_field_u32(dump: &[u32], field: Field) -> Told<u32> =
-        told(ours(field).read_u32(dump), in_c!(read_field_u32(dump, ours(field)).value));
-    read_field_le(dump: &[u32], field: Field, bytes: &mut [u8]) -> Outcome = {
-        let in_c = raw::read_field_le(dump, ours(field), &mut bytes.to_vec());
-        outcome(ours(field).read_le(dump, bytes), in_c.refusal)
+    read_field_u8(dump: &[u32], lengths: &[u8], field: Field) -> Told<u32> =
+        told(ours(field).read_u8(dump, lengths).map(u32::from), in_c!(read_field_u8(dump, lengths, ours(field)).value));
+    read_field_u16(dump: &[u32], lengths: &[u8], field: Field) -> Told<u32> =
+        told(ours(field).read_u16(dump, lengths).map(u32::from), in_c!(read_field_u16(dump, lengths, ours(field)).value));
+    read_field_u32(dump: &[u32], lengths: &[u8], field: Field) -> Told<u32> =
+        told(ours(field).read_u32(dump, lengths), in_c!(read_field_u32(dump, lengths, ours(field)).value));
+    read_field_le(dump: &[u32], lengths: &[u8], field: Field, bytes: &mut [u8]) -> Outcome = {
+        let in_c = raw::read_field_le(dump, lengths, ours(field), &mut bytes.to_vec());
+        outcome(ours(field).read_le(dump, lengths, bytes), in_c.refusal)
     };
-    view(field: &[u32], reference: &[u32], board: u8, block: u8) -> View = viewed(field, reference, board, block);
-    check_map(chip: u8, map: &[u8]) -> Outcome = outcome(check_map(Chip(chip), map), raw::check_map(chip, map).refusal);
+    view(field: &[u32], reference: &[u32], lengths: &[u8], board: u8, block: u8) -> View =
+        viewed(field, reference, lengths, board, block);
+    check_map(chip: u8, lengths: &[u8], map: &[u8]) -> Outcome =
+        outcome(check_map(Chip(chip), lengths, map), raw::check_map(chip, lengths, map).refusal);
 
-    decode(dump: &[u32], map: &[u8], unit: u8, atten: u8) -> Told<Decoded> = decoded(dump, map, unit, atten);
+    decode(dump: &[u32], lengths: &[u8], map: &[u8], unit: u8, atten: u8) -> Told<Decoded> =
+        decoded(dump, lengths, map, unit, atten);
     check_record(cal: LineRecord) -> Outcome = outcome(cal.check(), raw::check_record(cal).refusal);
     convert(cal: LineRecord, raw: u16) -> Told<u16> =
         told(cal.convert(Count(raw)).map(|mv| mv.0), in_c!(convert(cal, Count(raw)).voltage.0));
@@ -117,41 +120,44 @@ library! {
         outcome(cal.fill(Count(first), out), in_c.refusal)
     };
 
-    s2_version(dump: &[u32], map: &[u8]) -> Told<u8> = told(s2::version(dump, map), in_c!(s2_version(dump, map).version));
-    s2_reading_vlow(dump: &[u32], version: u8, unit: u8, atten: u8) -> Told<i32> =
-        told(s2::reading_vlow(dump, version, Unit(unit), Attenuation(atten)),
-            in_c!(s2_reading_vlow(dump, version, unit, atten).value));
-    s2_reading_vhigh(dump: &[u32], version: u8, unit: u8, atten: u8) -> Told<i32> =
-        told(s2::reading_vhigh(dump, version, Unit(unit), Attenuation(atten)),
-            in_c!(s2_reading_vhigh(dump, version, unit, atten).value));
-    s2_reading_vinit(dump: &[u32], version: u8, unit: u8, atten: u8) -> Told<i32> =
-        told(s2::reading_vinit(dump, version, Unit(unit), Attenuation(atten)),
-            in_c!(s2_reading_vinit(dump, version, unit, atten).value));
+    s2_version(dump: &[u32], lengths: &[u8], map: &[u8]) -> Told<u8> =
+        told(s2::version(dump, lengths, map), in_c!(s2_version(dump, lengths, map).version));
+    s2_reading_vlow(dump: &[u32], lengths: &[u8], version: u8, unit: u8, atten: u8) -> Told<i32> =
+        told(s2::reading_vlow(dump, lengths, version, Unit(unit), Attenuation(atten)),
+            in_c!(s2_reading_vlow(dump, lengths, version, unit, atten).value));
+    s2_reading_vhigh(dump: &[u32], lengths: &[u8], version: u8, unit: u8, atten: u8) -> Told<i32> =
+        told(s2::reading_vhigh(dump, lengths, version, Unit(unit), Attenuation(atten)),
+            in_c!(s2_reading_vhigh(dump, lengths, version, unit, atten).value));
+    s2_reading_vinit(dump: &[u32], lengths: &[u8], version: u8, unit: u8, atten: u8) -> Told<i32> =
+        told(s2::reading_vinit(dump, lengths, version, Unit(unit), Attenuation(atten)),
+            in_c!(s2_reading_vinit(dump, lengths, version, unit, atten).value));
     s2_skipped_vlow(version: u8, unit: u8, atten: u8) -> Told<i32> =
         told(s2::skipped_vlow(version, Unit(unit), Attenuation(atten)), in_c!(s2_skipped_vlow(version, unit, atten).value));
     s2_skipped_vhigh(version: u8, unit: u8, atten: u8) -> Told<i32> =
         told(s2::skipped_vhigh(version, Unit(unit), Attenuation(atten)), in_c!(s2_skipped_vhigh(version, unit, atten).value));
     s2_skipped_vinit(version: u8, unit: u8, atten: u8) -> Told<i32> =
         told(s2::skipped_vinit(version, Unit(unit), Attenuation(atten)), in_c!(s2_skipped_vinit(version, unit, atten).value));
-    s2_init_code(dump: &[u32], map: &[u8], unit: u8, atten: u8) -> Told<u16> =
-        told(s2::init_code(dump, map, Unit(unit), Attenuation(atten)), in_c!(s2_init_code(dump, map, unit, atten).code));
-    s2_cal_code(dump: &[u32], map: &[u8], unit: u8, atten: u8) -> Told<u16> =
-        told(s2::cal_code(dump, map, Unit(unit), Attenuation(atten)), in_c!(s2_cal_code(dump, map, unit, atten).code));
+    s2_init_code(dump: &[u32], lengths: &[u8], map: &[u8], unit: u8, atten: u8) -> Told<u16> =
+        told(s2::init_code(dump, lengths, map, Unit(unit), Attenuation(atten)),
+            in_c!(s2_init_code(dump, lengths, map, unit, atten).code));
+    s2_cal_code(dump: &[u32], lengths: &[u8], map: &[u8], unit: u8, atten: u8) -> Told<u16> =
+        told(s2::cal_code(dump, lengths, map, Unit(unit), Attenuation(atten)),
+            in_c!(s2_cal_code(dump, lengths, map, unit, atten).code));
     s2_cal_mv(unit: u8, atten: u8) -> Told<u16> =
         told(s2::cal_mv(Unit(unit), Attenuation(atten)).map(|mv| mv.0), in_c!(s2_cal_mv(unit, atten).voltage.0));
-    s2_flash_encryption(dump: &[u32], map: &[u8]) -> Told<u8> =
-        told(s2::flash_encryption(dump, map).map(u8::from), in_c!(s2_flash_encryption(dump, map).on));
+    s2_flash_encryption(dump: &[u32], lengths: &[u8], map: &[u8]) -> Told<u8> =
+        told(s2::flash_encryption(dump, lengths, map).map(u8::from), in_c!(s2_flash_encryption(dump, lengths, map).on));
 
     c6_version(minor: u8) -> u8 = c6::version(minor);
-    c6_init_code(dump: &[u32], map: &[u8], minor: u8, unit: u8, atten: u8) -> Told<u16> =
-        told(c6::init_code(dump, map, minor, Unit(unit), Attenuation(atten)),
-            in_c!(c6_init_code(dump, map, minor, unit, atten).code));
-    c6_cal_code(dump: &[u32], map: &[u8], minor: u8, unit: u8, atten: u8) -> Told<u16> =
-        told(c6::cal_code(dump, map, minor, Unit(unit), Attenuation(atten)),
-            in_c!(c6_cal_code(dump, map, minor, unit, atten).code));
-    c6_get_chan_compens(dump: &[u32], map: &[u8], unit: u8, channel: u8, atten: u8) -> Told<i32> =
-        told(c6::get_chan_compens(dump, map, Unit(unit), channel, Attenuation(atten)),
-            in_c!(c6_get_chan_compens(dump, map, unit, channel, atten).value));
+    c6_init_code(dump: &[u32], lengths: &[u8], map: &[u8], minor: u8, unit: u8, atten: u8) -> Told<u16> =
+        told(c6::init_code(dump, lengths, map, minor, Unit(unit), Attenuation(atten)),
+            in_c!(c6_init_code(dump, lengths, map, minor, unit, atten).code));
+    c6_cal_code(dump: &[u32], lengths: &[u8], map: &[u8], minor: u8, unit: u8, atten: u8) -> Told<u16> =
+        told(c6::cal_code(dump, lengths, map, minor, Unit(unit), Attenuation(atten)),
+            in_c!(c6_cal_code(dump, lengths, map, minor, unit, atten).code));
+    c6_get_chan_compens(dump: &[u32], lengths: &[u8], map: &[u8], unit: u8, channel: u8, atten: u8) -> Told<i32> =
+        told(c6::get_chan_compens(dump, lengths, map, Unit(unit), channel, Attenuation(atten)),
+            in_c!(c6_get_chan_compens(dump, lengths, map, unit, channel, atten).value));
     c6_cal_mv(minor: u8, unit: u8, atten: u8) -> Told<u16> =
         told(c6::cal_mv(minor, Unit(unit), Attenuation(atten)).map(|mv| mv.0), in_c!(c6_cal_mv(minor, unit, atten).voltage.0));
 
@@ -160,7 +166,7 @@ library! {
             in_c!(correct(chip, minor, unit, atten, Millivolt(line)).voltage.0));
 
     next_sample(log: &[u8]) -> Next = next(log);
-    sample(sample: Sample, field: &[u32], reference: &[u32], map: &[u8]) -> Told<u16> =
-        told(Session { field, reference }.sample(map, sample).map(|mv| mv.0),
-            in_c!(sample(sample, field, reference, map).voltage.0));
+    sample(sample: Sample, field: &[u32], reference: &[u32], lengths: &[u8], map: &[u8]) -> Told<u16> =
+        told(Session { field, reference, lengths }.sample(map, sample).map(|mv| mv.0),
+            in_c!(sample(sample, field, reference, lengths, map).voltage.0));
 }

@@ -1,10 +1,11 @@
 //! Sample logs: the next sample, and a sample's answer.
 use oracle::codes::Codes;
 use oracle::noise::Noise;
-use oracle::rules::MapChip;
+use oracle::rules::{EIGHTS, MapChip};
 use oracle::{Dump, answers};
 use suongkivat::{Count, Sample};
 
+use crate::fields::Boards;
 use crate::input::Input;
 use crate::library::Library;
 use crate::strewn::{Strewn, plain_map, strewn};
@@ -40,17 +41,15 @@ pub fn next_samples(library: &Library, tally: &mut Tally, noise: &mut Noise) -> 
     Ok(())
 }
 
-/// A field dump, a reference dump and a map.
-type Boards<'a> = (&'a [u32], &'a [u32], &'a [u8]);
-
-pub fn sample(library: &Library, tally: &mut Tally, (field, reference, map): Boards, sample: Sample) -> Compared {
+pub fn sample(library: &Library, tally: &mut Tally, (boards, map): (Boards, &[u8]), sample: Sample) -> Compared {
+    let (field, reference, lengths) = boards;
     let Sample { raw: Count(raw), board, last } = sample;
     let input = || {
         let input = Input::default().number("raw", raw).number("board", board).number("last byte", last);
-        input.dump(field).dump(reference).map(map)
+        input.dump(field).dump(reference).lengths(lengths).map(map)
     };
-    let ours = (library.sample)(sample, field, reference, map);
-    tally.same("sample", input, ours, || told(answers::sample(field, reference, map, raw, board, last)))
+    let ours = (library.sample)(sample, field, reference, lengths, map);
+    tally.same("sample", input, ours, || told(answers::sample(field, reference, lengths, map, raw, board, last)))
 }
 
 /// Counts where an answer changes its way, and past the last.
@@ -70,19 +69,19 @@ pub fn samples(library: &Library, tally: &mut Tally, noise: &mut Noise) -> Compa
     let (field, reference) = (board(noise, 0), board(noise, 1));
     for (board, last) in (0..=255).flat_map(|board| (0..=255).map(move |last| (board, last))) {
         for raw in COUNTS {
-            sample(library, tally, (&field, &reference, &plain), Sample { raw: Count(raw), board, last })?;
+            sample(library, tally, ((&field, &reference, &EIGHTS), &plain), Sample { raw: Count(raw), board, last })?;
         }
     }
     for _ in 0..1_000_000 {
         let (noisy, reserve) = (noise.dump(), noise.below(2));
         let plainly = board(noise, reserve);
-        let Strewn { dump: field, map, .. } = strewn(noise, MapChip::Esp32, &noisy);
+        let Strewn { dump: field, lengths, map, .. } = strewn(noise, MapChip::Esp32, &noisy);
         let count = noise.below(4096) as u16;
         let raw = noise.pick(&[count, count, count, 4096, 65535]);
         let (board, last) = (noise.pick(&[0, 0, 1, 1, 2]), noise.below(9) as u8);
         let boards = if noise.once_in(2) { [&field[..], &plainly] } else { [&plainly[..], &field] };
         let map = if noise.once_in(2) { &map } else { &plain };
-        sample(library, tally, (boards[0], boards[1], map), Sample { raw: Count(raw), board, last })?;
+        sample(library, tally, ((boards[0], boards[1], &lengths), map), Sample { raw: Count(raw), board, last })?;
     }
     Ok(())
 }

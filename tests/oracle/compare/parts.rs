@@ -3,7 +3,7 @@ use oracle::noise::Noise;
 
 use crate::library::Library;
 use crate::tally::{Compared, Tally};
-use crate::{c6, convert, curve, decode, fields, fill, firmware, logs, maps, records, s2, vref};
+use crate::{c6, convert, curve, decode, fields, fill, firmware, lengths, logs, maps, orders, records, s2, vref};
 
 pub struct Part {
     pub name: &'static str,
@@ -19,7 +19,7 @@ impl Part {
     }
 }
 
-pub const PARTS: [Part; 24] = [
+pub const PARTS: [Part; 30] = [
     Part { name: "fields", run: fields::fields },
     Part { name: "fields into bytes", run: fields::bytes },
     Part { name: "views", run: fields::views },
@@ -44,4 +44,10 @@ pub const PARTS: [Part; 24] = [
     Part { name: "curves with faults", run: curve::refused },
     Part { name: "samples", run: logs::samples },
     Part { name: "logs", run: logs::next_samples },
+    Part { name: "fields by length", run: lengths::fields },
+    Part { name: "views by length", run: lengths::views },
+    Part { name: "maps by length", run: lengths::maps },
+    Part { name: "S2 by length", run: lengths::s2 },
+    Part { name: "lists of lengths", run: lengths::lists },
+    Part { name: "orders of refusals", run: orders::orders_of_refusals },
 ];

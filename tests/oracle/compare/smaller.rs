@@ -1,6 +1,6 @@
 //! From an input that differs to the smallest that is reached by making one thing plainer at a time, as long as it still differs.
 use oracle::Dump;
-use oracle::rules::MapChip;
+use oracle::rules::{EIGHTS, MapChip};
 
 use crate::input::Input;
 use crate::maps;
@@ -24,6 +24,10 @@ fn plainer(call: &str, input: &Input) -> Vec<Input> {
             input.dumps[k] = dump;
             input
         }));
+    }
+    if let Some(lengths) = &input.lengths {
+        let lists = plainer_bytes(lengths, &EIGHTS);
+        plainer.extend(lists.into_iter().map(|lengths| Input { lengths: Some(lengths), ..input.clone() }));
     }
     if let Some((name, bytes)) = &input.bytes {
         let maps = plainer_bytes(bytes, &plain_bytes(call, input));

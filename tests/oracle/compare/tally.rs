@@ -83,12 +83,13 @@ pub fn outcome<T>(answer: &Answer<T>) -> Outcome {
     Outcome { refused: Refused::of(answer) }
 }
 
-/// How many answers were compared, how many of them are refusals, and with which numbers.
+/// How many answers were compared, how many of them are refusals, and with which numbers; and the number of the last one.
 #[derive(Default)]
 pub struct Tally {
     pub compared: u64,
     pub refused: u64,
     pub numbers: BTreeSet<u8>,
+    pub last: u8,
 }
 
 impl Tally {
@@ -103,10 +104,10 @@ impl Tally {
         let wanted = match quietly(wanted) {
             Ok(wanted) if wanted == ours => {
                 self.compared += 1;
-                let number = wanted.refused().number();
-                if number != 0 {
+                self.last = wanted.refused().number();
+                if self.last != 0 {
                     self.refused += 1;
-                    self.numbers.insert(number);
+                    self.numbers.insert(self.last);
                 }
                 return Ok(());
             }

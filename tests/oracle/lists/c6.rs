@@ -1,18 +1,22 @@
 //! The C6: every 10-bit calibration code, init codes of every width, channel codes, every channel and every minor version.
-use oracle::answers;
 use oracle::dumps::{Builder, any_words, lent};
 use oracle::maps::{any_map, changed, of_length, record_faults, spoil};
 use oracle::noise::Noise;
 use oracle::plain::record;
-use oracle::rules::{Answer, MapChip, RECORD, refusal_bytes};
+use oracle::rules::{Answer, EIGHTS, MapChip, RECORD, refusal_bytes};
+use oracle::{Dump, answers};
 
-use crate::list::List;
+use crate::list::{List, groups};
 
 const VERSION: u8 = 0;
-const INIT_CODE: u8 = 1;
-const CAL_CODE: u8 = 2;
-const CHAN_COMPENS: u8 = 3;
+pub const INIT_CODE: u8 = 1;
+pub const CAL_CODE: u8 = 2;
+pub const CHAN_COMPENS: u8 = 3;
 const CAL_MV: u8 = 4;
+
+/// Bytes of a case, and cases that share a dump.
+pub const CASE: usize = 24;
+pub const CASES: usize = 128;
 
 /// The map's record that a call reads.
 const FIRST_CAL_RECORD: u8 = 4;
@@ -20,19 +24,19 @@ const FIRST_CHANNEL_RECORD: u8 = 8;
 
 /// A call, the code that its field holds and the bits of that field.
 #[derive(Clone, Copy)]
-struct Case {
-    call: u8,
-    minor: u8,
-    unit: u8,
-    atten: u8,
-    channel: u8,
-    code: u32,
-    count: u32,
+pub struct Case {
+    pub call: u8,
+    pub minor: u8,
+    pub unit: u8,
+    pub atten: u8,
+    pub channel: u8,
+    pub code: u32,
+    pub count: u32,
 }
 
 impl Case {
     /// The number of the map's record that the call reads.
-    fn reads(self) -> u8 {
+    pub fn reads(self) -> u8 {
         match self.call {
             CAL_CODE => FIRST_CAL_RECORD + self.atten % 4,
             CHAN_COMPENS => FIRST_CHANNEL_RECORD + self.channel.min(6),
@@ -40,13 +44,13 @@ impl Case {
         }
     }
 
-    fn answer(self, words: &[u32], map: &[u8]) -> Answer<i32> {
+    fn answer(self, words: &[u32], lengths: &[u8], map: &[u8]) -> Answer<i32> {
         let Self { minor, unit, atten, channel, .. } = self;
         match self.call {
             VERSION => Ok(answers::c6_version(minor).into()),
-            INIT_CODE => answers::c6_init_code(words, map, minor, unit, atten).map(i32::from),
-            CAL_CODE => answers::c6_cal_code(words, map, minor, unit, atten).map(i32::from),
-            CHAN_COMPENS => answers::c6_chan_compens(words, map, unit, channel, atten),
+            INIT_CODE => answers::c6_init_code(words, lengths, map, minor, unit, atten).map(i32::from),
+            CAL_CODE => answers::c6_cal_code(words, lengths, map, minor, unit, atten).map(i32::from),
+            CHAN_COMPENS => answers::c6_chan_compens(words, lengths, map, unit, channel, atten),
             CAL_MV => answers::c6_cal_mv(minor, unit, atten).map(i32::from),
             call => unreachable!("call {call}"),
         }
@@ -114,16 +118,28 @@ fn version_cases() -> Vec<Case> {
     cases
 }
 
-/// What a call is asked with beside the case: the record put into the group's map, its length, the dump's.
-struct Asked {
-    case: Case,
-    place: u8,
-    record: [u8; RECORD],
-    length: u8,
-    words: u8,
+/// What a call is asked with beside the case: the block lengths, the record put into the map, the map's length, the dump's.
+pub struct Asked {
+    pub lengths: Vec<u8>,
+    pub case: Case,
+    pub place: u8,
+    pub record: [u8; RECORD],
+    pub length: u8,
+    pub words: u8,
 }
 
 impl Asked {
+    pub fn of(case: Case, place: u8, record: [u8; RECORD]) -> Self {
+        Self { lengths: EIGHTS.to_vec(), case, place, record, length: 120, words: 88 }
+    }
+
+    /// The map with the record in it.
+    pub fn map(&self, map: &[u8]) -> Vec<u8> {
+        let mut map = map.to_vec();
+        map[RECORD * usize::from(self.place)..][..RECORD].copy_from_slice(&self.record);
+        map
+    }
+
     fn strew(&mut self, noise: &mut Noise) {
         for _ in 0..noise.within(1, 2) {
             match noise.below(6) {
@@ -136,11 +152,9 @@ impl Asked {
         }
     }
 
-    fn put(&self, list: &mut List, dump: &Builder, map: &[u8]) {
-        let mut map = map.to_vec();
-        map[RECORD * usize::from(self.place)..][..RECORD].copy_from_slice(&self.record);
-        let map = of_length(map, self.length.into());
-        let answer = self.case.answer(&lent(&dump.dump, self.words), &map);
+    pub fn put(&self, list: &mut List, dump: &Dump, map: &[u8]) {
+        let map = of_length(self.map(map), self.length.into());
+        let answer = self.case.answer(&lent(dump, self.words), &self.lengths, &map);
         let Case { call, minor, unit, atten, channel, .. } = self.case;
         list.put(&self.record).u8(self.place).u8(self.length).u8(self.words).u8(call);
         list.u8(minor).u8(unit).u8(atten).u8(channel).put(&refusal_bytes(&answer)).u8(0).i32(answer.unwrap_or(0));
@@ -155,7 +169,7 @@ fn bad_records(map: &[u8]) -> Vec<Asked> {
             for call in [INIT_CODE, CAL_CODE, CHAN_COMPENS] {
                 let case = Case { call, minor: 1, unit: place % 2, atten: place % 4, channel: place, code: 0, count: 1 };
                 let record = changed(good, &fault).try_into().expect("a record");
-                all.push(Asked { case, place, record, length: 120, words: 88 });
+                all.push(Asked::of(case, place, record));
             }
         }
     }
@@ -163,8 +177,13 @@ fn bad_records(map: &[u8]) -> Vec<Asked> {
 }
 
 /// The map that every case starts from: a good one.
-fn map() -> Vec<u8> {
+pub fn map() -> Vec<u8> {
     any_map(&mut Noise::new(10), MapChip::C6)
+}
+
+/// A record of a map, by its number.
+pub fn record_of(map: &[u8], place: u8) -> [u8; RECORD] {
+    map[RECORD * usize::from(place)..][..RECORD].try_into().expect("a record")
 }
 
 pub fn map_list() -> List {
@@ -176,8 +195,7 @@ pub fn map_list() -> List {
 /// A dump and 128 cases, each with a record of the map replaced; last those of bad records, begun again until no case of a dump is left
 /// over.
 pub fn calls() -> List {
-    const CASES: usize = 128;
-    let mut list = List::new("esp32c6_cases", "calls", 352 + 24 * CASES);
+    let mut list = List::new("esp32c6_cases", "calls", 352 + CASE * CASES);
     let map = map();
     let noise = &mut Noise::new(9);
     let mut cases = cal_cases(noise);
@@ -196,20 +214,18 @@ pub fn calls() -> List {
             let place = case.reads();
             let id = 9 + place;
             // A call that reads no field gets its record as the map had it, so that the map stays good.
-            let own = [map[RECORD * usize::from(place)..][..RECORD].try_into().expect("a record"), record(id, field)];
+            let own = [record_of(&map, place), record(id, field)];
             let record = own[usize::from([INIT_CODE, CAL_CODE, CHAN_COMPENS].contains(&case.call))];
-            let mut asked = Asked { case: *case, place, record, length: 120, words: 88 };
+            let mut asked = Asked::of(*case, place, record);
             if CASES * g + i >= faultless {
                 asked.strew(noise);
             }
-            asked.put(&mut list, &dump, &map);
+            asked.put(&mut list, &dump.dump, &map);
         }
     }
-    let bad = bad_records(&map);
-    let cases: Vec<&Asked> = bad.iter().cycle().take(bad.len().next_multiple_of(CASES)).collect();
-    for group in cases.chunks(CASES) {
-        let dump = Builder::new(noise.dump());
-        list.words(&dump.dump);
+    for group in groups(&bad_records(&map), CASES) {
+        let dump = noise.dump();
+        list.words(&dump);
         group.iter().for_each(|asked| asked.put(&mut list, &dump, &map));
     }
     list

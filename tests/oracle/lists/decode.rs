@@ -6,10 +6,12 @@ use oracle::dumps::{Builder, any_words, lent};
 use oracle::maps::{changed, map_faults, of_length, spoil};
 use oracle::noise::Noise;
 use oracle::plain::dump_and_map;
-use oracle::rules::{MapChip, RECORD, refusal_bytes};
-use oracle::{answers, document};
+use oracle::records::keys;
+use oracle::rules::{EIGHTS, MapChip, RECORD, refusal_bytes};
+use oracle::together::choices;
+use oracle::{answers, document, lengths};
 
-use crate::list::List;
+use crate::list::{LENGTHS, List, groups};
 
 /// Codes, unit and attenuation of a decoding.
 type Case = (Codes, u8, u8);
@@ -87,28 +89,28 @@ fn any_case(noise: &mut Noise) -> Case {
     (Codes::any(noise, reserve), noise.pick(&UNITS), noise.pick(&ATTENS))
 }
 
-/// Cases that share a dump.
+/// Bytes of a case, and cases that share a dump.
+const CASE: usize = 68;
 const CASES: usize = 32;
 
 /// Maps with each fault of their records, at each unit and attenuation in turn; begun again until no case of a dump is left over.
 fn put_bad_maps(list: &mut List, noise: &mut Noise) {
     let faults = map_faults(&dump_and_map(MapChip::Esp32, &[]).1);
-    let keys = UNITS.into_iter().flat_map(|unit| ATTENS.map(|atten| (unit, atten))).cycle();
-    let cases: Vec<_> = faults.iter().cycle().zip(keys).take(faults.len().next_multiple_of(CASES)).collect();
+    let keys: Vec<_> = keys().collect();
+    let cases: Vec<_> = faults.iter().cycle().zip(keys.iter().cycle()).take(faults.len().next_multiple_of(CASES)).collect();
     for group in cases.chunks(CASES) {
         let mut dump = Builder::new(noise.dump());
         let good: Vec<Vec<u8>> = group.iter().map(|_| Codes::any(noise, 1).place(noise, &mut dump)).collect();
         list.words(&dump.dump);
-        for (good, (fault, (unit, atten))) in good.iter().zip(group) {
-            let asked = Asked { map: changed(good, fault), length: 48, words: 88, unit: *unit, atten: *atten };
-            asked.put(list, &dump);
+        for (good, (fault, key)) in good.iter().zip(group) {
+            Asked::of(changed(good, fault), **key).put(list, &dump);
         }
     }
 }
 
 /// A dump and 32 cases: what is decoded, with refusals strewn in by `strew`, and last those of bad maps.
 pub fn decode() -> List {
-    let mut list = List::new("line_cases", "decode", 352 + 68 * CASES);
+    let mut list = List::new("line_cases", "decode", 352 + CASE * CASES);
     let noise = &mut Noise::new(4);
     let mut cases = vref_cases(noise);
     cases.extend(one_zero_cases(noise));
@@ -122,7 +124,7 @@ pub fn decode() -> List {
         let maps: Vec<Vec<u8>> = group.iter().map(|(codes, ..)| codes.place(noise, &mut dump)).collect();
         list.words(&dump.dump);
         for (i, (map, (_, unit, atten))) in maps.into_iter().zip(group).enumerate() {
-            let mut asked = Asked { map, length: 48, words: 88, unit: *unit, atten: *atten };
+            let mut asked = Asked::of(map, (*unit, *atten));
             if CASES * g + i >= faultless {
                 asked.strew(noise);
             }
@@ -135,6 +137,7 @@ pub fn decode() -> List {
 
 /// A decoding as it is asked for.
 struct Asked {
+    lengths: Vec<u8>,
     map: Vec<u8>,
     length: usize,
     words: u8,
@@ -143,6 +146,11 @@ struct Asked {
 }
 
 impl Asked {
+    /// On a whole dump under that map.
+    fn of(map: Vec<u8>, (unit, atten): (u8, u8)) -> Self {
+        Self { lengths: EIGHTS.to_vec(), map, length: 48, words: 88, unit, atten }
+    }
+
     /// Makes some of it wrong, often in more than one way, so that the order of refusals shows.
     fn strew(&mut self, noise: &mut Noise) {
         for _ in 0..noise.below(3) {
@@ -160,12 +168,76 @@ impl Asked {
     }
 
     fn put(self, list: &mut List, dump: &Builder) {
-        let Self { map, length, words, unit, atten } = self;
+        let Self { lengths, map, length, words, unit, atten } = self;
         list.put(&map).u8(length as u8).u8(words).u8(unit).u8(atten);
-        let answer = answers::decode(&lent(&dump.dump, words), &of_length(map, length), unit, atten);
+        let answer = answers::decode(&lent(&dump.dump, words), &lengths, &of_length(map, length), unit, atten);
         let [number, record, place] = refusal_bytes(&answer);
         let got = answer.unwrap_or_default();
         list.u8(number).u8(got.source).u16(got.vref as u16).u32(got.coeff_a).u32(got.coeff_b);
         list.u8(record).u8(place).zeros(2);
     }
+}
+
+/// Codes, a unit and an attenuation, and what is changed once the codes have a map: its block lengths, for one.
+type Short = (Case, Box<dyn Fn(&mut Asked)>);
+
+/// Under the least lengths that the map fits: by Vref and by two points. Then with a record outside its block's own length.
+fn least_cases(noise: &mut Noise) -> Vec<Short> {
+    let mut cases: Vec<Short> = Vec::new();
+    let least = |asked: &mut Asked| asked.lengths = lengths::least(&asked.map).into();
+    for (unit, atten) in keys() {
+        cases.extend([0, 1, 1].map(|reserve| ((Codes::any(noise, reserve), unit, atten), Box::new(least) as _)));
+        for k in 0..6 {
+            let outside = move |asked: &mut Asked| asked.lengths = lengths::outside(&asked.map, k).into();
+            cases.push(((Codes::any(noise, 1), unit, atten), Box::new(outside)));
+        }
+    }
+    cases
+}
+
+/// Each bad list; and each choice of the faults 1, 20, 7, 2, 5 and 9, with one bad list after the other.
+fn bad_lists(noise: &mut Noise) -> Vec<Short> {
+    let mut cases: Vec<Short> = Vec::new();
+    for (list, (unit, atten)) in lengths::bad(EIGHTS).into_iter().zip(keys().collect::<Vec<_>>().into_iter().cycle()) {
+        cases.push(((Codes::any(noise, 1), unit, atten), Box::new(move |asked| asked.lengths = list.clone())));
+    }
+    for (fault, which) in choices(6).zip((0..lengths::bad(EIGHTS).len()).cycle()) {
+        let codes = Codes::any(noise, 1);
+        let codes = if fault[5] { codes.with(0, 0x3F, 0x101) } else { codes.with(0, 0x05, 0x1F0) };
+        let together = move |asked: &mut Asked| {
+            let good = if fault[4] { lengths::outside(&asked.map, 5) } else { lengths::least(&asked.map) };
+            asked.lengths = if fault[1] { lengths::bad(good)[which].clone() } else { good.into() };
+            if fault[0] {
+                asked.words = 87;
+            }
+            if fault[2] {
+                asked.atten = 4;
+            }
+            if fault[3] {
+                asked.length = 47;
+            }
+        };
+        cases.push(((codes, 0, 3), Box::new(together)));
+    }
+    cases
+}
+
+/// Blocks with lengths of their own: a dump and 32 cases.
+pub fn short_decode() -> List {
+    let mut list = List::new("line_cases", "short_decode", 352 + (LENGTHS + CASE) * CASES);
+    let noise = &mut Noise::new(16);
+    let mut cases = least_cases(noise);
+    cases.extend(bad_lists(noise));
+    for group in groups(&cases, CASES) {
+        let mut dump = Builder::new(noise.dump());
+        let maps: Vec<Vec<u8>> = group.iter().map(|((codes, ..), _)| codes.place(noise, &mut dump)).collect();
+        list.words(&dump.dump);
+        for (map, ((_, unit, atten), change)) in maps.into_iter().zip(group) {
+            let mut asked = Asked::of(map, (*unit, *atten));
+            change(&mut asked);
+            list.lengths(&asked.lengths);
+            asked.put(&mut list, &dump);
+        }
+    }
+    list
 }

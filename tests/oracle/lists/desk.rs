@@ -1,4 +1,4 @@
-//! The desk's cases: sets of the program's four files, good and damaged, with all that it has to write on them.
+//! The desk's cases: sets of the program's files, good and damaged, with all that it has to write on them.
 use std::collections::BTreeSet;
 use std::fs;
 use std::path::Path;
@@ -7,10 +7,11 @@ use oracle::codes::{ATTENS, Codes};
 use oracle::desk::{DUMP_FILE, output};
 use oracle::dumps::{Builder, ONES, ZEROS};
 use oracle::fields::{Field, field_of};
+use oracle::lengths;
 use oracle::maps::{any_map, of_length, spoil};
 use oracle::noise::Noise;
 use oracle::plain::{dump_and_map, record};
-use oracle::rules::{MapChip, RECORD, SAMPLE};
+use oracle::rules::{EIGHTS, MapChip, RECORD, SAMPLE};
 
 use crate::logs;
 
@@ -18,10 +19,11 @@ use crate::logs;
 type File = Option<Vec<u8>>;
 
 /// The files of a case.
-#[derive(Clone)]
+#[derive(Clone, Default)]
 struct Case {
     field: File,
     reference: File,
+    lengths: File,
     map: File,
     samples: File,
 }
@@ -31,7 +33,7 @@ impl Case {
     fn output(&self) -> String {
         let [field, reference, map, samples] =
             [&self.field, &self.reference, &self.map, &self.samples].map(|file| file.as_deref().unwrap_or_default());
-        output(field, reference, map, samples)
+        output(field, reference, self.lengths.as_deref(), map, samples)
     }
 
     /// The same with another log.
@@ -42,6 +44,11 @@ impl Case {
     /// The same with another map.
     fn mapped(&self, map: Vec<u8>) -> Self {
         Self { map: Some(map), ..self.clone() }
+    }
+
+    /// The same with block lengths.
+    fn under(&self, lengths: impl Into<Vec<u8>>) -> Self {
+        Self { lengths: Some(lengths.into()), ..self.clone() }
     }
 }
 
@@ -81,13 +88,15 @@ fn good(noise: &mut Noise, map: Vec<u8>) -> Case {
     let two_point = two_point(noise);
     let vref = Codes::any(noise, 0).with_vref(0x1B);
     let (field, reference) = (board(noise, &map, two_point), board(noise, &map, vref));
-    Case { field: Some(field), reference: Some(reference), map: Some(map), samples: Some(logs::probe()) }
+    let [field, reference, map, samples] = [field, reference, map, logs::probe()].map(Some);
+    Case { field, reference, map, samples, lengths: None }
 }
 
 /// Document 01's example, whose output it gives.
 fn example() -> Case {
-    let zeros = Some(dump_file(&ZEROS));
-    let case = Case { field: zeros.clone(), reference: zeros, map: Some(plain_map()), samples: Some(logs::example()) };
+    let zeros = dump_file(&ZEROS);
+    let [field, reference, map, samples] = [zeros.clone(), zeros, plain_map(), logs::example()].map(Some);
+    let case = Case { field, reference, map, samples, lengths: None };
     assert_eq!(case.output(), "0 F 0 142\n1 R 2880 2462\n2 F 4096 refused 8\n");
     case
 }
@@ -188,7 +197,7 @@ fn dump_cases(good: &Case) -> Vec<Case> {
     cases.push(Case { field: None, ..good.on(logs::between()) });
     cases.push(Case { field: None, map: None, ..good.clone() });
     cases.push(Case { reference: Some(Vec::new()), ..good.mapped(changed(&[(5, 0, 7)])) });
-    cases.push(Case { field: None, reference: None, map: None, samples: None });
+    cases.push(Case::default());
     cases
 }
 
@@ -265,10 +274,83 @@ fn any_case(noise: &mut Noise) -> Case {
         spoil(noise, &mut map[RECORD * k..][..RECORD]);
     }
     let [field, reference] = [noise.dump(), noise.dump()].map(|dump| Some(dump_file(&dump)));
-    Case { field, reference, map: Some(map), samples: Some(logs::any(noise)) }
+    Case { field, reference, map: Some(map), samples: Some(logs::any(noise)), lengths: None }
 }
 
-fn cases() -> Vec<Case> {
+/// Good lists: all eights, the least lengths that the map fits, with logs whose key changes. Then each record of a map outside its
+/// block's own length, a block of no words, and a last record whose field would need a word more.
+fn good_lists(plain: &Case, scattered: &Case) -> Vec<Case> {
+    let mut cases = vec![plain.under(EIGHTS), scattered.under(EIGHTS).on(logs::orders())];
+    cases.push(plain.under(lengths::least(&plain_map())));
+    cases.push(plain.under(lengths::least(&plain_map())).on(logs::between()));
+    cases.push(scattered.under(lengths::least(&scattered_map())).on(logs::orders()));
+    cases.push(plain.under(lengths::outside(&plain_map(), 0)));
+    cases.push(plain.under(lengths::with(EIGHTS, 0, 0)));
+    cases.push(plain.under(lengths::with(EIGHTS, 1, 0)));
+    cases.extend((0..6).map(|k| scattered.under(lengths::outside(&scattered_map(), k))));
+    cases.extend([7, 6].map(|words| plain.under(lengths::with(EIGHTS, 0, words)).mapped(changed(&[(5, 2, 192)]))));
+    cases
+}
+
+/// Bad lists: of every kind; with samples that name no board; the list and the map in each other's files; the map's in both, and the list's.
+fn bad_lists(plain: &Case) -> Vec<Case> {
+    let mut lists: Vec<Vec<u8>> = lengths::bad(EIGHTS);
+    lists.extend([24, DUMP_FILE].map(|bytes| vec![8; bytes]));
+    lists.push(vec![0; 12]);
+    let mut cases: Vec<Case> = lists.into_iter().map(|list| plain.under(list)).collect();
+    cases.push(plain.under([]).on(logs::boards()));
+    cases.push(plain.under(plain_map()).mapped(EIGHTS.into()));
+    cases.push(plain.under(plain_map()));
+    cases.push(plain.under(EIGHTS).mapped(EIGHTS.into()));
+    cases
+}
+
+/// Lists, good ones, short ones and bad ones, beside other faults, which 20 comes before or after: of dumps, of maps and their records,
+/// of boards that are refused with 9; with no other file.
+fn lists_with_faults(noise: &mut Noise, plain: &Case) -> Vec<Case> {
+    let underflow = two_point(noise).with(0, 0x3F, 0x101);
+    let refused_at_0 = Some(board(noise, &plain_map(), underflow));
+    let least = lengths::least(&plain_map());
+    let mut cases = Vec::new();
+    for list in [least.to_vec(), lengths::outside(&plain_map(), 0).to_vec(), lengths::with(least, 10, 9).to_vec()] {
+        let plain = plain.under(list);
+        cases.push(Case { field: None, ..plain.clone() });
+        cases.push(Case { reference: Some(vec![0; DUMP_FILE - 1]), ..plain.clone() });
+        cases.push(Case { map: None, ..plain.clone() });
+        cases.push(Case { field: refused_at_0.clone(), ..plain.on(logs::between()) });
+        for changes in [(0, 0, 9), (4, 5, 1), (2, 1, 11), (3, 1, 1), (5, 4, 8)] {
+            cases.push(plain.mapped(changed(&[changes])));
+        }
+        cases.push(plain.mapped(of_length(plain_map(), 47)));
+        cases.push(Case { samples: plain.samples.clone(), lengths: plain.lengths.clone(), ..Case::default() });
+        cases.push(Case { lengths: plain.lengths, ..Case::default() });
+    }
+    cases
+}
+
+/// Noise, under any lengths and under the least that the map fits.
+fn any_lists(noise: &mut Noise) -> Vec<Case> {
+    let mut cases = Vec::new();
+    for _ in 0..4 {
+        let map = any_map(noise, MapChip::Esp32);
+        let case = any_case(noise).mapped(map.clone());
+        cases.extend([lengths::any(noise), lengths::least(&map)].map(|list| case.under(list)));
+    }
+    cases
+}
+
+/// The cases that have a file of block lengths.
+fn with_lengths(plain: &Case, scattered: &Case) -> Vec<Case> {
+    let noise = &mut Noise::new(13);
+    let mut cases = good_lists(plain, scattered);
+    cases.extend(bad_lists(plain));
+    cases.extend(lists_with_faults(noise, plain));
+    cases.extend(any_lists(noise));
+    cases
+}
+
+/// The cases without block lengths, and those with them.
+fn cases() -> [Vec<Case>; 2] {
     let noise = &mut Noise::new(12);
     let plain = good(noise, plain_map());
     let scattered = good(noise, scattered_map());
@@ -282,7 +364,7 @@ fn cases() -> Vec<Case> {
     cases.extend((0..8).map(|_| any_case(noise)));
     cases.extend(attenuation_cases(noise, &plain, &plain_map()));
     cases.extend(stray_byte_cases(&plain));
-    cases
+    [cases, with_lengths(&plain, &scattered)]
 }
 
 /// The refusals that some line has.
@@ -325,26 +407,57 @@ impl Kind {
     }
 }
 
+/// The files of all cases by their kinds.
+struct Kinds {
+    dumps: Kind,
+    maps: Kind,
+    logs: Kind,
+    lengths: Kind,
+}
+
+impl Kinds {
+    fn new() -> Self {
+        Self { dumps: Kind::new('d'), maps: Kind::new('m'), logs: Kind::new('s'), lengths: Kind::new('l') }
+    }
+
+    /// The numbers of a case's files; a file of block lengths is the last.
+    fn numbers(&mut self, case: &Case) -> [u8; 5] {
+        let Self { dumps, maps, logs, lengths } = self;
+        let boards = [&case.field, &case.reference].map(|file| dumps.number(file));
+        [boards[0], boards[1], maps.number(&case.map), logs.number(&case.samples), lengths.number(&case.lengths)]
+    }
+
+    /// How many files there are of each kind.
+    fn counts(&self) -> [usize; 4] {
+        [&self.dumps, &self.maps, &self.logs, &self.lengths].map(|kind| kind.files.len())
+    }
+
+    /// Writes all files and gives their size.
+    fn save(self, folder: &Path) -> usize {
+        [self.dumps, self.maps, self.logs, self.lengths].into_iter().map(|kind| kind.save(folder)).sum()
+    }
+}
+
 /// Writes crates/desk_cases/data and crates/desk_cases/stdout, and gives the size of the data.
 pub fn save(root: &str) -> usize {
-    let (mut dumps, mut maps, mut logs) = (Kind::new('d'), Kind::new('m'), Kind::new('s'));
-    let (mut numbers, mut stdout) = (Vec::new(), String::new());
-    let cases = cases();
-    for (number, case) in cases.iter().enumerate() {
-        numbers.extend([dumps.number(&case.field), dumps.number(&case.reference)]);
-        numbers.extend([maps.number(&case.map), logs.number(&case.samples)]);
+    let (mut kinds, mut stdout) = (Kinds::new(), String::new());
+    let [without, with] = cases();
+    // A case without block lengths has no number for them.
+    let numbers: Vec<u8> = without.iter().flat_map(|case| kinds.numbers(case)[..4].to_vec()).collect();
+    let with_lengths: Vec<u8> = with.iter().flat_map(|case| kinds.numbers(case)).collect();
+    for (number, case) in without.iter().chain(&with).enumerate() {
         stdout += &format!("case {number}\n{}", case.output());
     }
     // 7 needs a last byte above 7, which is 15; 10 to 14 belong to other calls.
-    assert_eq!(refusals(&stdout), BTreeSet::from([1, 2, 3, 4, 5, 6, 8, 9, 15, 16, 18]));
+    assert_eq!(refusals(&stdout), BTreeSet::from([1, 2, 3, 4, 5, 6, 8, 9, 15, 16, 18, 20]));
     let program = Path::new(root).join("crates").join("desk_cases");
     let data = program.join("data");
     let _ = fs::remove_dir_all(&data);
     fs::create_dir_all(&data).expect("a folder");
     fs::write(data.join("cases"), &numbers).expect("the cases");
+    fs::write(data.join("lengths_cases"), &with_lengths).expect("the cases");
     fs::write(program.join("stdout"), &stdout).expect("the output");
-    let counts = [&dumps, &maps, &logs].map(|kind| kind.files.len());
-    let size = numbers.len() + [dumps, maps, logs].into_iter().map(|kind| kind.save(&data)).sum::<usize>();
-    println!("desk_cases: {} cases, {counts:?} dumps, maps and logs, {} bytes of output", cases.len(), stdout.len());
-    size
+    let (cases, counts) = ([without.len(), with.len()], kinds.counts());
+    println!("desk_cases: {cases:?} cases, {counts:?} dumps, maps, logs and lists, {} bytes of output", stdout.len());
+    numbers.len() + with_lengths.len() + kinds.save(&data)
 }

@@ -2,6 +2,9 @@
 use std::fs;
 use std::path::Path;
 
+/// Bytes of a list of block lengths, which a case may begin with.
+pub const LENGTHS: usize = 16;
+
 pub struct List {
     program: &'static str,
     name: &'static str,
@@ -35,6 +38,11 @@ impl List {
         words.iter().fold(self, |list, word| list.u32(*word))
     }
 
+    /// A list of block lengths: how many there are, the lengths, zeros.
+    pub fn lengths(&mut self, lengths: &[u8]) -> &mut Self {
+        self.u8(lengths.len() as u8).put(lengths).zeros(LENGTHS - 1 - lengths.len())
+    }
+
     pub fn zeros(&mut self, n: usize) -> &mut Self {
         self.put(&vec![0; n])
     }
@@ -54,4 +62,10 @@ impl List {
         println!("{}/data/{}: {records} records of {} bytes", self.program, self.name, self.record);
         self.bytes.len()
     }
+}
+
+/// Cases by groups of one size, which share a dump; begun again until no group lacks one.
+pub fn groups<T>(cases: &[T], size: usize) -> Vec<Vec<&T>> {
+    let whole: Vec<&T> = cases.iter().cycle().take(cases.len().next_multiple_of(size)).collect();
+    whole.chunks(size).map(<[&T]>::to_vec).collect()
 }

@@ -10,6 +10,10 @@ mod list;
 mod logs;
 mod maps;
 mod s2;
+mod samples;
+mod short_c6;
+mod short_s2;
+mod views;
 
 fn main() {
     let root = std::env::args().nth(1).expect("usage: lists ROOT");
@@ -19,13 +23,21 @@ fn main() {
         fields::bytes(),
         maps::good_maps(),
         maps::maps(),
+        fields::short_fields(),
+        fields::short_bytes(),
+        maps::short_maps(),
+        views::views(),
         decode::decode(),
         convert::convert(),
         convert::fill(),
         convert::stretches(),
+        decode::short_decode(),
+        samples::samples(),
         s2::calls(),
+        short_s2::calls(),
         c6::map_list(),
         c6::calls(),
+        short_c6::calls(),
         curve::tables(),
         curve::single(),
     ] {

@@ -3,48 +3,49 @@ use oracle::dumps::{Builder, ONES, ZEROS, any_words, lent};
 use oracle::maps::{Change, any_map, changed, map_faults, of_length, spoil};
 use oracle::noise::Noise;
 use oracle::plain::{dump_and_map, record};
-use oracle::rules::{Answer, MapChip, RECORD, refusal_bytes};
+use oracle::rules::{Answer, EIGHTS, MapChip, RECORD, refusal_bytes};
 use oracle::{Dump, answers};
 
 use crate::list::List;
 
-const VERSION: u8 = 0;
-const FLASH_ENCRYPTION: u8 = 1;
-const READING: u8 = 2;
+pub const VERSION: u8 = 0;
+pub const FLASH_ENCRYPTION: u8 = 1;
+pub const READING: u8 = 2;
 const SKIPPED: u8 = 3;
-const INIT_CODE: u8 = 4;
-const CAL_CODE: u8 = 5;
+pub const INIT_CODE: u8 = 4;
+pub const CAL_CODE: u8 = 5;
 const CAL_MV: u8 = 6;
 
 /// A call as it is asked for.
 #[derive(Clone)]
-struct Asked {
-    map: Vec<u8>,
-    length: u8,
-    words: u8,
-    call: u8,
-    version: u8,
-    unit: u8,
-    atten: u8,
-    param: u8,
+pub struct Asked {
+    pub lengths: Vec<u8>,
+    pub map: Vec<u8>,
+    pub length: u8,
+    pub words: u8,
+    pub call: u8,
+    pub version: u8,
+    pub unit: u8,
+    pub atten: u8,
+    pub param: u8,
 }
 
 impl Asked {
     fn answer(&self, words: &[u32], map: &[u8]) -> Answer<i32> {
-        let Self { version, unit, atten, param, .. } = *self;
+        let Self { ref lengths, version, unit, atten, param, .. } = *self;
         match self.call {
-            VERSION => answers::s2_version(words, map).map(i32::from),
-            FLASH_ENCRYPTION => answers::s2_flash_encryption(words, map).map(i32::from),
-            READING => answers::s2_reading(words, version, unit, atten, param),
+            VERSION => answers::s2_version(words, lengths, map).map(i32::from),
+            FLASH_ENCRYPTION => answers::s2_flash_encryption(words, lengths, map).map(i32::from),
+            READING => answers::s2_reading(words, lengths, version, unit, atten, param),
             SKIPPED => answers::s2_skipped(version, unit, atten, param),
-            INIT_CODE => answers::s2_init_code(words, map, unit, atten).map(i32::from),
-            CAL_CODE => answers::s2_cal_code(words, map, unit, atten).map(i32::from),
+            INIT_CODE => answers::s2_init_code(words, lengths, map, unit, atten).map(i32::from),
+            CAL_CODE => answers::s2_cal_code(words, lengths, map, unit, atten).map(i32::from),
             CAL_MV => answers::s2_cal_mv(unit, atten).map(i32::from),
             call => unreachable!("call {call}"),
         }
     }
 
-    fn put(&self, list: &mut List, dump: &Builder) {
+    pub fn put(&self, list: &mut List, dump: &Builder) {
         let map = of_length(self.map.clone(), self.length.into());
         let answer = self.answer(&lent(&dump.dump, self.words), &map);
         list.put(&self.map).u8(self.length).u8(self.words).u8(self.call);
@@ -78,6 +79,11 @@ fn tags() -> Vec<(u8, u8, u8, u8, u8)> {
 /// A map whose version field holds a version, mostly 2, and whose crypt count holds anything.
 fn version_map(noise: &mut Noise, dump: &mut Builder) -> Vec<u8> {
     let version = noise.pick(&[2, 2, 2, 2, 0, 1, 3, 6, 255]);
+    map_of(noise, dump, version)
+}
+
+/// A map whose version field holds that version, and whose crypt count holds anything.
+pub fn map_of(noise: &mut Noise, dump: &mut Builder, version: u32) -> Vec<u8> {
     let count = if version == 255 { 8 } else { noise.within(3, 8) };
     let version = record(7, dump.holding(noise, version, count));
     let count = noise.within(1, 8);
@@ -88,7 +94,7 @@ fn version_map(noise: &mut Noise, dump: &mut Builder) -> Vec<u8> {
 /// A call on a map, of any unit and attenuation.
 fn on_map(noise: &mut Noise, map: Vec<u8>, call: u8) -> Asked {
     let (unit, atten) = (noise.below(2) as u8, noise.below(4) as u8);
-    Asked { map, length: 16, words: 88, call, version: 0, unit, atten, param: 0 }
+    Asked { lengths: EIGHTS.to_vec(), map, length: 16, words: 88, call, version: 0, unit, atten, param: 0 }
 }
 
 /// Every call that takes a map, with each fault of its records.
@@ -120,11 +126,12 @@ fn any_call(noise: &mut Noise, dump: &mut Builder) -> Asked {
     asked
 }
 
-/// Cases that share a dump.
-const CASES: usize = 64;
+/// Bytes of a case, and cases that share a dump.
+pub const CASE: usize = 32;
+pub const CASES: usize = 64;
 
 /// A dump whose table's bits stay as they are.
-fn with_table(dump: Dump) -> Builder {
+pub fn with_table(dump: Dump) -> Builder {
     Builder::new(dump).keep(2)
 }
 
@@ -137,14 +144,14 @@ fn put_group(list: &mut List, noise: &mut Noise, mut dump: Builder, mut cases: V
 
 /// A dump and 64 cases; last those of bad maps.
 pub fn calls() -> List {
-    let mut list = List::new("esp32s2_cases", "calls", 352 + 32 * CASES);
+    let mut list = List::new("esp32s2_cases", "calls", 352 + CASE * CASES);
     let noise = &mut Noise::new(8);
     let mut group = |noise: &mut Noise, dump, asked: &[(u8, u8, u8, u8, u8)]| {
         let mut cases = Vec::new();
         for &(call, version, unit, atten, param) in asked {
             let map = any_map(noise, MapChip::S2);
             let words = any_words(noise);
-            cases.push(Asked { map, length: 16, words, call, version, unit, atten, param });
+            cases.push(Asked { lengths: EIGHTS.to_vec(), map, length: 16, words, call, version, unit, atten, param });
         }
         put_group(&mut list, noise, with_table(dump), cases);
     };

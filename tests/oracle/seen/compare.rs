@@ -5,8 +5,8 @@ use oracle::fields::{self, Field};
 use oracle::line::{self, Record, TWO_POINT, VREF};
 use oracle::noise::Noise;
 use oracle::plain::dump_and_map;
-use oracle::rules::MapChip;
-use oracle::{c6, document, records, s2};
+use oracle::rules::{self, EIGHTS, MOST, MapChip};
+use oracle::{Dump, c6, document, lengths, records, s2};
 
 /// How many answers were compared, and how many of them differ.
 struct Tally {
@@ -34,7 +34,7 @@ impl Tally {
 
 /// How many answers differ.
 pub fn all() -> u64 {
-    let parts = [marked, fields, vref, vref_lines, two_point, convert, s2_readings, s2_codes, c6_codes];
+    let parts = [marked, fields, vref, vref_lines, two_point, convert, s2_readings, s2_lengths, s2_codes, c6_codes];
     parts.iter().map(|part| part()).sum()
 }
 
@@ -211,6 +211,29 @@ fn s2_readings() -> u64 {
             let tag = document::tag(version, unit, atten, param);
             tally.same(s2::reading(&dump, version, unit, atten, param), Ok(document::reading(Some(&dump), tag)));
             tally.same(s2::skipped(version, unit, atten, param), Ok(document::reading(None, tag)));
+        }
+    }
+    tally.report()
+}
+
+/// Document 02, #109: a reading is refused exactly if the crate reads bits past block 2's own length, so that other bits there may give
+/// another reading.
+fn s2_lengths() -> u64 {
+    let mut tally = Tally::new("S2 readings that reach past a block 2 of 0 to 8 words");
+    let noise = &mut Noise::new(104);
+    for words in 0..=MOST {
+        for (i, unit, atten) in codes(15, 2, 4) {
+            let (version, param) = ([0, 1, 2, 3, 255][i as usize / 3], (i % 3) as u8);
+            let (unit, atten) = (unit as u8, atten as u8);
+            let reading = |dump: &Dump| s2::reading(dump, version, unit, atten, param);
+            let reaches_past = (0..64).any(|_| {
+                let dump = noise.dump();
+                let mut other = dump;
+                other[16 + usize::from(words)..24].fill_with(|| noise.long() as u32);
+                reading(&dump) != reading(&other)
+            });
+            let rule = rules::s2_fields(&lengths::with(EIGHTS, 2, words), version, unit, atten, param);
+            tally.same(reaches_past, rule.is_err());
         }
     }
     tally.report()

@@ -4,7 +4,7 @@ use crate::dumps::Builder;
 use crate::line::Record;
 use crate::noise::Noise;
 use crate::plain::{dump_and_map, record};
-use crate::rules::{Answer, MapChip};
+use crate::rules::{Answer, EIGHTS, MapChip};
 
 pub const UNITS: [u8; 2] = [0, 1];
 pub const ATTENS: [u8; 4] = [0, 1, 2, 3];
@@ -52,6 +52,6 @@ impl Codes {
     /// What is decoded of them.
     pub fn decoded(self, unit: u8, atten: u8) -> Answer<Record> {
         let (dump, map) = dump_and_map(MapChip::Esp32, &self.bits());
-        answers::decode(&dump, &map, unit, atten)
+        answers::decode(&dump, &EIGHTS, &map, unit, atten)
     }
 }

@@ -141,15 +141,27 @@ const TAGS: [(u16, u16, i32, i32, usize); 33] = [
     (191, 6, 2, 13, 31),
 ];
 
+/// A tag's field.
+fn field(tag: usize) -> Field {
+    let (bit_start, bit_count, ..) = TAGS[tag];
+    Field { block: 2, bit_start, bit_count }
+}
+
+/// The fields that a tag's reading reads: its own, that of the tag it depends on, and so on down to tag 0, which has none.
+pub fn fields(tag: usize) -> impl Iterator<Item = Field> {
+    let depends = |tag: &usize| Some(TAGS[*tag].4);
+    std::iter::successors(Some(tag), depends).take_while(|tag| *tag != 0).map(field)
+}
+
 /// A tag's reading, down to tag 0; without a dump the field term is dropped.
 pub fn reading(dump: Option<&Dump>, tag: usize) -> i32 {
-    let (bit_start, bit_count, multiplier, base, depends) = TAGS[tag];
+    let (.., multiplier, base, depends) = TAGS[tag];
     if tag == 0 {
         return 0;
     }
-    let field = Field { block: 2, bit_start, bit_count };
+    let field = field(tag);
     let bits = |dump| u32::from_le_bytes(bytes(dump, field, 4).try_into().expect("four bytes"));
-    let term = dump.map_or(0, |dump| sign_magnitude(bits(dump), bit_count.into()) * multiplier);
+    let term = dump.map_or(0, |dump| sign_magnitude(bits(dump), field.bit_count.into()) * multiplier);
     term + base + reading(dump, depends)
 }
 

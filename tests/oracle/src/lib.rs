@@ -1,7 +1,7 @@
 //! The crate as oracle. `fields`, `line`, `s2`, `c6` and `curve` ask the crate itself, which may panic; `answers` has
 //! document 01's answer to any input: its refusals in its order (`rules`), and past them the crate's answer. `document` has its
-//! formulas, written without the crate; `desk` has what the desk program writes. `noise`, `plain`, `dumps`, `maps`, `codes` and
-//! `records` make inputs.
+//! formulas, written without the crate; `desk` has what the desk program writes. `noise`, `plain`, `dumps`, `lengths`, `maps`, `codes`,
+//! `records` and `together` make inputs.
 pub mod answers;
 pub mod c6;
 mod call;
@@ -11,6 +11,7 @@ pub mod desk;
 pub mod document;
 pub mod dumps;
 pub mod fields;
+pub mod lengths;
 pub mod line;
 pub mod maps;
 pub mod noise;
@@ -18,6 +19,7 @@ pub mod plain;
 pub mod records;
 pub mod rules;
 pub mod s2;
+pub mod together;
 
 pub use call::{Panic, quietly};
 

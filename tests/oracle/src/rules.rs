@@ -45,9 +45,27 @@ fn refuse(wrong: bool, number: u8) -> Answer<()> {
     if wrong { Err(Refusal::numbered(number)) } else { Ok(()) }
 }
 
-/// 1: the dump hasn't 88 words.
-pub fn dump(words: &[u32]) -> Answer<&Dump> {
-    words.try_into().map_err(|_| Refusal::numbered(1))
+/// Blocks of a dump, and the most words that one has.
+pub const BLOCKS: usize = 11;
+pub const MOST: u8 = 8;
+
+/// Document 02, #109: how many words each block has.
+pub type Lengths = [u8; BLOCKS];
+
+/// The list of a chip whose blocks are all whole, which is document 01's.
+pub const EIGHTS: Lengths = [MOST; BLOCKS];
+
+/// 20, document 02, #109: the list of block lengths isn't eleven lengths of at most 8.
+pub fn lengths(list: &[u8]) -> Answer<&Lengths> {
+    let eleven = <&Lengths>::try_from(list).map_err(|_| Refusal::numbered(20))?;
+    refuse(eleven.iter().any(|length| *length > MOST), 20)?;
+    Ok(eleven)
+}
+
+/// 1: the dump hasn't 88 words; right after it 20.
+pub fn dump<'a>(words: &'a [u32], list: &'a [u8]) -> Answer<(&'a Dump, &'a Lengths)> {
+    let dump = words.try_into().map_err(|_| Refusal::numbered(1))?;
+    Ok((dump, lengths(list)?))
 }
 
 /// The chips that have a field map.
@@ -88,29 +106,34 @@ impl MapChip {
     }
 }
 
-/// 4: block above 10; 5: bit start above 255, or start + count above 256.
-pub fn place(field: Field) -> Answer<()> {
-    refuse(field.block > 10, 4)?;
-    refuse(field.bit_start > 255 || u32::from(field.bit_start) + u32::from(field.bit_count) > 256, 5)
+/// 4: block above 10; else the words that it has.
+pub fn block(lengths: &Lengths, block: u8) -> Answer<u8> {
+    lengths.get(usize::from(block)).copied().ok_or(Refusal::numbered(4))
+}
+
+/// 4; 5: bit start above 255, or, document 02, #109, start + count above 32 x the block's own length.
+pub fn place(lengths: &Lengths, field: Field) -> Answer<()> {
+    let end = 32 * u32::from(block(lengths, field.block)?);
+    refuse(field.bit_start > 255 || u32::from(field.bit_start) + u32::from(field.bit_count) > end, 5)
 }
 
 /// A map's record: 3: its id is wrong; 18: a byte among its last three isn't zero, and the first such tells its place; 4 and 5: its
 /// field's place; 6: its bit count is not as in the table.
-fn map_record(record: &[u8], (id, least, largest): Row) -> Answer<()> {
+fn map_record(lengths: &Lengths, record: &[u8], (id, least, largest): Row) -> Answer<()> {
     refuse(record[0] != id, 3)?;
     for at in [5, 6, 7] {
         refuse(record[at] != 0, 18).map_err(|refusal| Refusal { place: Some(at as u8), ..refusal })?;
     }
-    place(field_of(record, 0))?;
+    place(lengths, field_of(record, 0))?;
     refuse(!(least..=largest).contains(&record[4]), 6)
 }
 
 /// 2: the map's length isn't its chip's; then its records from first to last, and the first bad one tells its number.
-pub fn map(chip: MapChip, map: &[u8]) -> Answer<()> {
+pub fn map(chip: MapChip, lengths: &Lengths, map: &[u8]) -> Answer<()> {
     let rows = chip.rows();
     refuse(map.len() != RECORD * rows.len(), 2)?;
     for (k, (record, row)) in map.chunks(RECORD).zip(rows).enumerate() {
-        map_record(record, row).map_err(|refusal| Refusal { record: Some(k as u8), ..refusal })?;
+        map_record(lengths, record, row).map_err(|refusal| Refusal { record: Some(k as u8), ..refusal })?;
     }
     Ok(())
 }
@@ -162,6 +185,11 @@ pub fn stretch(first: u16, n: usize) -> Answer<()> {
 /// 12: S2 version not 2.
 pub fn s2_version(dump: &Dump, map: &[u8]) -> Answer<()> {
     refuse(read_u32(dump, field_of(map, 0)) != Ok(2), 12)
+}
+
+/// 5, document 02, #109: some field that an S2 reading reads lies outside block 2's own length. It is no map's, and tells no record.
+pub fn s2_fields(lengths: &Lengths, version: u8, unit: u8, atten: u8, param: u8) -> Answer<()> {
+    document::fields(document::tag(version, unit, atten, param)).try_for_each(|field| place(lengths, field))
 }
 
 /// 12: C6 version not 1 or 2; it is 1 for minor 1, 2 for 2 or more, else 0.

@@ -5,6 +5,10 @@ use esp32s2::reach;
 use crate::Dump;
 use crate::call::{Panic, caught};
 
+/// The parameters that the codes are readings of, by their index.
+pub const VHIGH: u8 = 1;
+pub const VINIT: u8 = 2;
+
 /// The parameters by their index.
 pub const PARAMS: [RtcCalibParam; 3] = [RtcCalibParam::Vlow, RtcCalibParam::Vhigh, RtcCalibParam::Vinit];
 

@@ -5,10 +5,10 @@ use Rattle.desk_cases.proofs.run_cases.Statement.{statement}
 use Rattle.desk_cases.proofs.run_cases.Tie as tie
 
 abbrev Inv-loop : tie.InvT-loop
-Inv-loop cases number₀ number = Unit {0}
+Inv-loop cases files first number₀ number = Unit {0}
 
 abbrev μ-loop : tie.MeasureT-loop
-μ-loop cases number₀ number = 18446744073709551615 - number
+μ-loop cases files first number₀ number = 18446744073709551615 - number
 
 loop-holds : tie.Need-loop-holds Inv-loop μ-loop
 loop-holds c = search needs

@@ -5,16 +5,16 @@ use super::refused;
 use crate::library::PROVED;
 use crate::told::{Next, Told};
 
-pub fn field_dump(sample: Sample, field: &[u32], _reference: &[u32], map: &[u8]) -> Told<u16> {
-    (PROVED.sample)(sample, field, field, map)
+pub fn field_dump(sample: Sample, field: &[u32], _reference: &[u32], lengths: &[u8], map: &[u8]) -> Told<u16> {
+    (PROVED.sample)(sample, field, field, lengths, map)
 }
 
-pub fn raw_before_board(sample: Sample, field: &[u32], reference: &[u32], map: &[u8]) -> Told<u16> {
-    if sample.raw > Count(4095) { refused(8) } else { (PROVED.sample)(sample, field, reference, map) }
+pub fn raw_before_board(sample: Sample, field: &[u32], reference: &[u32], lengths: &[u8], map: &[u8]) -> Told<u16> {
+    if sample.raw > Count(4095) { refused(8) } else { (PROVED.sample)(sample, field, reference, lengths, map) }
 }
 
-pub fn last_byte_8(sample: Sample, field: &[u32], reference: &[u32], map: &[u8]) -> Told<u16> {
-    (PROVED.sample)(Sample { last: if sample.last == 8 { 4 } else { sample.last }, ..sample }, field, reference, map)
+pub fn last_byte_8(sample: Sample, field: &[u32], reference: &[u32], lengths: &[u8], map: &[u8]) -> Told<u16> {
+    (PROVED.sample)(Sample { last: if sample.last == 8 { 4 } else { sample.last }, ..sample }, field, reference, lengths, map)
 }
 
 pub fn torn_is_end(log: &[u8]) -> Next {

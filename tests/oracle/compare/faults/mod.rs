@@ -4,17 +4,22 @@ mod curve;
 mod decode;
 mod fields;
 mod fill;
+mod lengths;
 mod line;
 mod logs;
 mod maps;
+mod orders;
 mod s2;
 
 use oracle::dumps::Builder;
 use oracle::fields::field_of;
-use oracle::rules::{RECORD, Refusal};
+use oracle::rules::{EIGHTS, RECORD, Refusal};
 
 use crate::library::{Library, PROVED};
+use crate::tally::Seen;
 use crate::told::{Outcome, Refused, Told};
+use lengths::{first_eleven, in_eights, last_passed_over, nine_is_eight, none_is_eights, ten_and_an_eight};
+use orders::{list_after, list_before_dump};
 
 pub struct Fault {
     pub name: &'static str,
@@ -65,29 +70,31 @@ faults! {
         "2 tells a record": check_map = maps::record_with_length,
     }
     "maps in decoding" {
-        "decode loses the record": decode = |dump, map, unit, atten| record_lost((PROVED.decode)(dump, map, unit, atten)),
+        "decode loses the record": decode = |dump, lengths, map, unit, atten| {
+            record_lost((PROVED.decode)(dump, lengths, map, unit, atten))
+        },
         "decode loses the place": decode = decode::place_lost,
-        "a sample loses the record": sample = |sample, field, reference, map| {
-            record_lost((PROVED.sample)(sample, field, reference, map))
+        "a sample loses the record": sample = |sample, field, reference, lengths, map| {
+            record_lost((PROVED.sample)(sample, field, reference, lengths, map))
         },
-        "the S2's version loses the record": s2_version = |dump, map| record_lost((PROVED.s2_version)(dump, map)),
-        "flash encryption loses the record": s2_flash_encryption = |dump, map| {
-            record_lost((PROVED.s2_flash_encryption)(dump, map))
+        "the S2's version loses the record": s2_version = |dump, lengths, map| record_lost((PROVED.s2_version)(dump, lengths, map)),
+        "flash encryption loses the record": s2_flash_encryption = |dump, lengths, map| {
+            record_lost((PROVED.s2_flash_encryption)(dump, lengths, map))
         },
-        "the S2's initial code loses the record": s2_init_code = |dump, map, unit, atten| {
-            record_lost((PROVED.s2_init_code)(dump, map, unit, atten))
+        "the S2's initial code loses the record": s2_init_code = |dump, lengths, map, unit, atten| {
+            record_lost((PROVED.s2_init_code)(dump, lengths, map, unit, atten))
         },
-        "the S2's code at the reference voltage loses the record": s2_cal_code = |dump, map, unit, atten| {
-            record_lost((PROVED.s2_cal_code)(dump, map, unit, atten))
+        "the S2's code at the reference voltage loses the record": s2_cal_code = |dump, lengths, map, unit, atten| {
+            record_lost((PROVED.s2_cal_code)(dump, lengths, map, unit, atten))
         },
-        "the C6's initial code loses the record": c6_init_code = |dump, map, minor, unit, atten| {
-            record_lost((PROVED.c6_init_code)(dump, map, minor, unit, atten))
+        "the C6's initial code loses the record": c6_init_code = |dump, lengths, map, minor, unit, atten| {
+            record_lost((PROVED.c6_init_code)(dump, lengths, map, minor, unit, atten))
         },
-        "the C6's code at the reference voltage loses the record": c6_cal_code = |dump, map, minor, unit, atten| {
-            record_lost((PROVED.c6_cal_code)(dump, map, minor, unit, atten))
+        "the C6's code at the reference voltage loses the record": c6_cal_code = |dump, lengths, map, minor, unit, atten| {
+            record_lost((PROVED.c6_cal_code)(dump, lengths, map, minor, unit, atten))
         },
-        "a channel's compensation loses the record": c6_get_chan_compens = |dump, map, unit, channel, atten| {
-            record_lost((PROVED.c6_get_chan_compens)(dump, map, unit, channel, atten))
+        "a channel's compensation loses the record": c6_get_chan_compens = |dump, lengths, map, unit, channel, atten| {
+            record_lost((PROVED.c6_get_chan_compens)(dump, lengths, map, unit, channel, atten))
         },
     }
     "decoding by Vref" {
@@ -215,6 +222,161 @@ faults! {
         "raw's high byte comes first": next_sample = logs::high_byte_first,
         "five bytes are torn": next_sample = logs::whole_records_alone,
     }
+    "fields by length" {
+        "5 goes by eight words whatever the list says": read_field_u32 = |dump, lengths, field| {
+            (PROVED.read_field_u32)(dump, in_eights(lengths), field)
+        },
+        "a field may end a bit past its block's own length": read_field_u16 = lengths::a_bit_past,
+        "a field may not end with its block": read_field_u32 = lengths::last_bit_refused,
+        "an empty field at its block's end is refused": read_field_u8 = lengths::empty_at_the_end_refused,
+        "an empty field past its block's end is taken": read_field_u8 = lengths::empty_anywhere,
+        "a block has the next one's length": read_field_u32 = lengths::next_blocks_length,
+        "a field is cut off at its block's end": read_field_le = lengths::cut_off,
+    }
+    "views by length" {
+        "eight words are viewed always": view = lengths::eight_words_viewed,
+        "a view starts at the sum of the lengths before it": view = lengths::blocks_without_padding,
+        "a view of no words lies at the start of the field dump": view = lengths::no_words_at_the_start,
+        "a view of no words is refused": view = lengths::no_words_refused,
+    }
+    "maps by length" {
+        "a map's fields are held to eight words": check_map = |chip, lengths, map| {
+            (PROVED.check_map)(chip, in_eights(lengths), map)
+        },
+        "5 by the block's own length tells record 0": check_map = lengths::record_lost,
+        "decode goes by eight words": decode = |dump, lengths, map, unit, atten| {
+            (PROVED.decode)(dump, in_eights(lengths), map, unit, atten)
+        },
+        "a sample goes by eight words": sample = |sample, field, reference, lengths, map| {
+            (PROVED.sample)(sample, field, reference, in_eights(lengths), map)
+        },
+        "the S2's version goes by eight words": s2_version = |dump, lengths, map| {
+            (PROVED.s2_version)(dump, in_eights(lengths), map)
+        },
+        "flash encryption goes by eight words": s2_flash_encryption = |dump, lengths, map| {
+            (PROVED.s2_flash_encryption)(dump, in_eights(lengths), map)
+        },
+        "the S2's initial code goes by eight words": s2_init_code = |dump, lengths, map, unit, atten| {
+            (PROVED.s2_init_code)(dump, in_eights(lengths), map, unit, atten)
+        },
+        "the S2's code at the reference voltage goes by eight words": s2_cal_code = |dump, lengths, map, unit, atten| {
+            (PROVED.s2_cal_code)(dump, in_eights(lengths), map, unit, atten)
+        },
+        "the C6's initial code goes by eight words": c6_init_code = |dump, lengths, map, minor, unit, atten| {
+            (PROVED.c6_init_code)(dump, in_eights(lengths), map, minor, unit, atten)
+        },
+        "the C6's code at the reference voltage goes by eight words": c6_cal_code = |dump, lengths, map, minor, unit, atten| {
+            (PROVED.c6_cal_code)(dump, in_eights(lengths), map, minor, unit, atten)
+        },
+        "a channel's compensation goes by eight words": c6_get_chan_compens = |dump, lengths, map, unit, channel, atten| {
+            (PROVED.c6_get_chan_compens)(dump, in_eights(lengths), map, unit, channel, atten)
+        },
+    }
+    "S2 by length" {
+        "a reading goes by eight words": s2_reading_vlow = |dump, lengths, version, unit, atten| {
+            (PROVED.s2_reading_vlow)(dump, in_eights(lengths), version, unit, atten)
+        },
+        "a chain is checked at its first tag only": s2_reading_vhigh = lengths::first_tag_alone,
+        "a chain is checked at its last tag only": s2_reading_vinit = lengths::last_tag_alone,
+        "an unpaired reading is refused": s2_reading_vlow = lengths::unpaired_refused,
+        "the table has block 1's length": s2_reading_vinit = lengths::table_of_block_1,
+        "a field outside is skipped": s2_reading_vinit = lengths::skipped_outside,
+        "5 is asked for before 12": s2_init_code = lengths::table_before_version,
+        "a code's table goes by eight words": s2_cal_code = lengths::code_past_the_table,
+        "5 tells the table's block as a record": s2_cal_code = lengths::table_as_record,
+        "in Rust 5 tells record 0, as if of the map": s2_init_code = lengths::record_in_rust,
+    }
+    "lists of lengths" {
+        "nine words are taken at 8 bits": read_field_u8 = |dump, lengths, field| {
+            (PROVED.read_field_u8)(dump, &nine_is_eight(lengths), field)
+        },
+        "the lengths up to the block alone are looked at": read_field_u16 = lengths::up_to_the_block,
+        "an eleventh length may be missing": read_field_u32 = |dump, lengths, field| {
+            (PROVED.read_field_u32)(dump, &ten_and_an_eight(lengths), field)
+        },
+        "a list of twelve is taken for lent bytes": read_field_le = |dump, lengths, field, bytes| {
+            (PROVED.read_field_le)(dump, first_eleven(lengths), field, bytes)
+        },
+        "the viewed block's length alone is looked at": view = lengths::the_block_alone,
+        "check_map doesn't look at the list": check_map = lengths::list_passed_over,
+        "no lengths mean eleven eights in decoding": decode = |dump, lengths, map, unit, atten| {
+            (PROVED.decode)(dump, none_is_eights(lengths), map, unit, atten)
+        },
+        "no lengths mean eleven eights for a sample": sample = |sample, field, reference, lengths, map| {
+            (PROVED.sample)(sample, field, reference, none_is_eights(lengths), map)
+        },
+        "a list of twelve is taken for the S2's version": s2_version = |dump, lengths, map| {
+            (PROVED.s2_version)(dump, first_eleven(lengths), map)
+        },
+        "the last length isn't looked at for flash encryption": s2_flash_encryption = |dump, lengths, map| {
+            (PROVED.s2_flash_encryption)(dump, &last_passed_over(lengths), map)
+        },
+        "nine words are taken for the lower voltage": s2_reading_vlow = |dump, lengths, version, unit, atten| {
+            (PROVED.s2_reading_vlow)(dump, &nine_is_eight(lengths), version, unit, atten)
+        },
+        "the last length isn't looked at for the higher voltage": s2_reading_vhigh = |dump, lengths, version, unit, atten| {
+            (PROVED.s2_reading_vhigh)(dump, &last_passed_over(lengths), version, unit, atten)
+        },
+        "a list of twelve is taken for the initial voltage": s2_reading_vinit = |dump, lengths, version, unit, atten| {
+            (PROVED.s2_reading_vinit)(dump, first_eleven(lengths), version, unit, atten)
+        },
+        "an eleventh length may be missing for the S2's initial code": s2_init_code = |dump, lengths, map, unit, atten| {
+            (PROVED.s2_init_code)(dump, &ten_and_an_eight(lengths), map, unit, atten)
+        },
+        "nine words are taken for the S2's code": s2_cal_code = |dump, lengths, map, unit, atten| {
+            (PROVED.s2_cal_code)(dump, &nine_is_eight(lengths), map, unit, atten)
+        },
+        "a list of twelve is taken for the C6's initial code": c6_init_code = |dump, lengths, map, minor, unit, atten| {
+            (PROVED.c6_init_code)(dump, first_eleven(lengths), map, minor, unit, atten)
+        },
+        "the last length isn't looked at for the C6's code": c6_cal_code = |dump, lengths, map, minor, unit, atten| {
+            (PROVED.c6_cal_code)(dump, &last_passed_over(lengths), map, minor, unit, atten)
+        },
+        "nine words are taken for a channel's compensation": c6_get_chan_compens = |dump, lengths, map, unit, channel, atten| {
+            (PROVED.c6_get_chan_compens)(dump, &nine_is_eight(lengths), map, unit, channel, atten)
+        },
+    }
+    "orders of refusals" {
+        "20 before 1 at 8 bits": read_field_u8 = list_before_dump!(read_field_u8(field)),
+        "20 after 4 at 8 bits": read_field_u8 = list_after!(4, read_field_u8(field)),
+        "20 before 1 at 16 bits": read_field_u16 = list_before_dump!(read_field_u16(field)),
+        "20 after 4 at 16 bits": read_field_u16 = list_after!(4, read_field_u16(field)),
+        "20 before 1 at 32 bits": read_field_u32 = list_before_dump!(read_field_u32(field)),
+        "20 after 4 at 32 bits": read_field_u32 = list_after!(4, read_field_u32(field)),
+        "20 before 1 into bytes": read_field_le = orders::bytes_list_before_dump,
+        "20 after 4 into bytes": read_field_le = orders::bytes_list_after_block,
+        "20 before 15 of a view": view = orders::view_list_before_board,
+        "20 before 1 of a view": view = orders::view_list_before_dump,
+        "20 after 4 of a view": view = orders::view_list_after_block,
+        "20 after 2 of a map": check_map = orders::map_list_after_length,
+        "20 before 1 in decoding": decode = list_before_dump!(decode(map, unit, atten)),
+        "20 after 7 in decoding": decode = list_after!(7, decode(map, unit, atten)),
+        "20 before 1 of the S2's version": s2_version = list_before_dump!(s2_version(map)),
+        "20 after 2 of the S2's version": s2_version = list_after!(2, s2_version(map)),
+        "20 before 1 of flash encryption": s2_flash_encryption = list_before_dump!(s2_flash_encryption(map)),
+        "20 after 2 of flash encryption": s2_flash_encryption = list_after!(2, s2_flash_encryption(map)),
+        "20 before 1 of the lower voltage": s2_reading_vlow = list_before_dump!(s2_reading_vlow(version, unit, atten)),
+        "20 after 7 of the lower voltage": s2_reading_vlow = list_after!(7, s2_reading_vlow(version, unit, atten)),
+        "20 before 1 of the higher voltage": s2_reading_vhigh = list_before_dump!(s2_reading_vhigh(version, unit, atten)),
+        "20 after 7 of the higher voltage": s2_reading_vhigh = list_after!(7, s2_reading_vhigh(version, unit, atten)),
+        "5 before 7 of the higher voltage": s2_reading_vhigh = orders::table_before_unit,
+        "20 before 1 of the initial voltage": s2_reading_vinit = list_before_dump!(s2_reading_vinit(version, unit, atten)),
+        "20 after 7 of the initial voltage": s2_reading_vinit = list_after!(7, s2_reading_vinit(version, unit, atten)),
+        "20 before 1 of the S2's initial code": s2_init_code = list_before_dump!(s2_init_code(map, unit, atten)),
+        "20 after 7 of the S2's initial code": s2_init_code = list_after!(7, s2_init_code(map, unit, atten)),
+        "20 before 1 of the S2's code": s2_cal_code = list_before_dump!(s2_cal_code(map, unit, atten)),
+        "20 after 7 of the S2's code": s2_cal_code = list_after!(7, s2_cal_code(map, unit, atten)),
+        "20 before 1 of the C6's initial code": c6_init_code = list_before_dump!(c6_init_code(map, minor, unit, atten)),
+        "20 after 7 of the C6's initial code": c6_init_code = list_after!(7, c6_init_code(map, minor, unit, atten)),
+        "20 before 1 of the C6's code": c6_cal_code = list_before_dump!(c6_cal_code(map, minor, unit, atten)),
+        "20 after 7 of the C6's code": c6_cal_code = list_after!(7, c6_cal_code(map, minor, unit, atten)),
+        "20 before 1 of a channel": c6_get_chan_compens = list_before_dump!(c6_get_chan_compens(map, unit, channel, atten)),
+        "20 after 7 of a channel": c6_get_chan_compens = list_after!(7, c6_get_chan_compens(map, unit, channel, atten)),
+        "20 before 15 of a sample": sample = orders::sample_list_before_board,
+        "20 before 1 of a sample": sample = orders::sample_list_before_dump,
+        "20 after 2 of a sample": sample = orders::sample_list_after_map,
+        "8 before 9 of a sample": sample = orders::count_before_underflow,
+    }
 }
 
 /// The library with the fault of that part and name.
@@ -249,12 +411,12 @@ fn record_lost<T>(told: Told<T>) -> Told<T> {
 }
 
 /// The answer without the first of two refusals, where it was refused with that: what a call says that asks for the other one first.
-fn swapped<T>(told: Told<T>, first: u8, second: u8, without_first: impl FnOnce() -> Told<T>) -> Told<T> {
-    if told.refused.number() != first {
+fn swapped<T: Seen>(told: T, first: u8, second: u8, without_first: impl FnOnce() -> T) -> T {
+    if told.refused().number() != first {
         return told;
     }
     let other = without_first();
-    if other.refused.number() == second { other } else { told }
+    if other.refused().number() == second { other } else { told }
 }
 
 fn outcome(number: u8) -> Outcome {
@@ -266,13 +428,13 @@ fn bits(dump: &[u32], map: &[u8], k: usize) -> u32 {
     if map.len() < RECORD * (k + 1) {
         return 0;
     }
-    (PROVED.read_field_u32)(dump, field_of(map, k)).value
+    (PROVED.read_field_u32)(dump, &EIGHTS, field_of(map, k)).value
 }
 
 /// The dump with other bits in a field of an ESP32 map, where the call isn't refused for its dump or map.
 fn with_bits(dump: &[u32], map: &[u8], k: usize, bits: u32) -> Vec<u32> {
     let Ok(whole) = dump.try_into() else { return dump.to_vec() };
-    if (PROVED.check_map)(0, map) != outcome(0) {
+    if (PROVED.check_map)(0, &EIGHTS, map) != outcome(0) {
         return dump.to_vec();
     }
     let mut dump = Builder::new(whole);
