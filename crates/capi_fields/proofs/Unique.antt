@@ -22,8 +22,8 @@ skv-read-field-u16-one κs a z z′ e e′ p q = p ∙ sym q
 pub skv-read-field-u32-one : OneAnswer (λ κs z e. z) skv-read-field-u32.Post
 skv-read-field-u32-one κs a z z′ e e′ p q = p ∙ sym q
 
--- of a reading into lent bytes, the third parameter, there is to see the outcome and what they are at exit
-pub skv-read-field-le-one : OneAnswer {X = SkvOutcome × List ℕ} (λ κs z e. (z, now (e .1 .1 .0))) skv-read-field-le.Post
+-- of a reading into lent bytes, the fourth parameter, there is to see the outcome and what they are at exit
+pub skv-read-field-le-one : OneAnswer {X = SkvOutcome × List ℕ} (λ κs z e. (z, now (e .1 .1 .1 .0))) skv-read-field-le.Post
 skv-read-field-le-one κs a z z′ e e′ p q = λ i. ((p .0 ∙ sym (q .0)) i, (p .1 ∙ sym (q .1)) i)
 
 pub skv-view-one : OneAnswer (λ κs z e. z) skv-view.Post

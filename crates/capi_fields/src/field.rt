@@ -10,7 +10,6 @@ use efuse::field::Read;
 use terms::refusal;
 ghost use mathlib.Core.Path.{_≡_};
 ghost use Rattle.terms.specs.Refusal.{outcomeOf};
-ghost use Rattle.dumps.specs.Dump.{eight};
 ghost use Rattle.efuse.specs.Field.{readRefusal, readOf, bytesRead};
 ghost use Rattle.capi.specs.Answer.{outcomeC};
 ghost use Rattle.capi_fields.specs.Field.{fieldFrom, readC};
@@ -57,35 +56,40 @@ fn read_c(read: Read) -> SkvRead
     }
 }
 
-// Reads a field at 8 bits. Refusals 1, 4, 5.
+// Reads a field at 8 bits. Refusals 1, 20, 4, 5.
 #[no_mangle]
-pub extern "C" fn skv_read_field_u8(dump: &[u32], field: SkvField) -> SkvRead
-    ensures { λ r. ⌜ r ≡ readC (readOf 8 eight (now (dump .entry)) (fieldFrom field)) ⌝ }
+pub extern "C" fn skv_read_field_u8(dump: &[u32], lengths: &[u8], field: SkvField) -> SkvRead
+    ensures { λ r. ⌜ r ≡ readC (readOf 8 (now (lengths .entry)) (now (dump .entry)) (fieldFrom field)) ⌝ }
 {
-    read_c(field::read_field_u8(dump, field_from(field)))
+    read_c(field::read_field_u8(dump, lengths, field_from(field)))
 }
 
 // The same at 16 bits.
 #[no_mangle]
-pub extern "C" fn skv_read_field_u16(dump: &[u32], field: SkvField) -> SkvRead
-    ensures { λ r. ⌜ r ≡ readC (readOf 16 eight (now (dump .entry)) (fieldFrom field)) ⌝ }
+pub extern "C" fn skv_read_field_u16(dump: &[u32], lengths: &[u8], field: SkvField) -> SkvRead
+    ensures { λ r. ⌜ r ≡ readC (readOf 16 (now (lengths .entry)) (now (dump .entry)) (fieldFrom field)) ⌝ }
 {
-    read_c(field::read_field_u16(dump, field_from(field)))
+    read_c(field::read_field_u16(dump, lengths, field_from(field)))
 }
 
 // The same at 32 bits.
 #[no_mangle]
-pub extern "C" fn skv_read_field_u32(dump: &[u32], field: SkvField) -> SkvRead
-    ensures { λ r. ⌜ r ≡ readC (readOf 32 eight (now (dump .entry)) (fieldFrom field)) ⌝ }
+pub extern "C" fn skv_read_field_u32(dump: &[u32], lengths: &[u8], field: SkvField) -> SkvRead
+    ensures { λ r. ⌜ r ≡ readC (readOf 32 (now (lengths .entry)) (now (dump .entry)) (fieldFrom field)) ⌝ }
 {
-    read_c(field::read_field_u32(dump, field_from(field)))
+    read_c(field::read_field_u32(dump, lengths, field_from(field)))
 }
 
-// Reads a field into the lent bytes, low first; all of them are written. A refusal, 1, 4, 5, leaves them as they were.
+// Reads a field into the lent bytes, low first; all of them are written. A refusal, 1, 20, 4, 5, leaves them as they were.
 #[no_mangle]
-pub extern "C" fn skv_read_field_le(dump: &[u32], field: SkvField, bytes: &mut [u8]) -> SkvOutcome
-    ensures answer { λ r. ⌜ r ≡ outcomeC (outcomeOf (readRefusal eight (now (dump .entry)) (fieldFrom field))) ⌝ }
-    ensures lent { λ r. ⌜ now (bytes .exit) ≡ bytesRead eight (now (dump .entry)) (fieldFrom field) (now (bytes .entry)) ⌝ }
+pub extern "C" fn skv_read_field_le(
+    dump: &[u32],
+    lengths: &[u8],
+    field: SkvField,
+    bytes: &mut [u8],
+) -> SkvOutcome
+    ensures answer { λ r. ⌜ r ≡ outcomeC (outcomeOf (readRefusal (now (lengths .entry)) (now (dump .entry)) (fieldFrom field))) ⌝ }
+    ensures lent { λ r. ⌜ now (bytes .exit) ≡ bytesRead (now (lengths .entry)) (now (dump .entry)) (fieldFrom field) (now (bytes .entry)) ⌝ }
 {
-    outcome_c(field::read_field_le(dump, field_from(field), bytes))
+    outcome_c(field::read_field_le(dump, lengths, field_from(field), bytes))
 }

@@ -10,7 +10,6 @@ use line_record::decoded::Decoded;
 use line_record::decoded::refusal_of;
 use terms::refusal;
 ghost use mathlib.Core.Path.{_≡_};
-ghost use Rattle.dumps.specs.Dump.{eight};
 ghost use Rattle.esp32.specs.Decode.{decodeOf};
 ghost use Rattle.capi_line.specs.Decode.{decodedC};
 
@@ -37,10 +36,16 @@ fn decoded_c(decoded: Decoded) -> SkvDecoded
     }
 }
 
-// The line record of a unit at an attenuation, from a dump and its map. Refusals 1, 7, the map's, 9.
+// The line record of a unit at an attenuation, from a dump and its map. Refusals 1, 20, 7, the map's, 9.
 #[no_mangle]
-pub extern "C" fn skv_decode(dump: &[u32], map: &[u8], unit: u8, atten: u8) -> SkvDecoded
-    ensures { λ r. ⌜ r ≡ decodedC (decodeOf eight (now (dump .entry)) (now (map .entry)) unit atten) ⌝ }
+pub extern "C" fn skv_decode(
+    dump: &[u32],
+    lengths: &[u8],
+    map: &[u8],
+    unit: u8,
+    atten: u8,
+) -> SkvDecoded
+    ensures { λ r. ⌜ r ≡ decodedC (decodeOf (now (lengths .entry)) (now (dump .entry)) (now (map .entry)) unit atten) ⌝ }
 {
-    decoded_c(decode::decode(dump, map, unit, atten))
+    decoded_c(decode::decode(dump, lengths, map, unit, atten))
 }

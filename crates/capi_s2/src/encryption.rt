@@ -7,7 +7,6 @@ use esp32s2::encryption;
 use esp32s2::encryption::FlashEncryption;
 use terms::refusal;
 ghost use mathlib.Core.Path.{_≡_};
-ghost use Rattle.dumps.specs.Dump.{eight};
 ghost use Rattle.esp32s2.specs.Encryption.{flashEncryptionOf};
 ghost use Rattle.capi_s2.specs.Encryption.{flashEncryptionC};
 
@@ -34,10 +33,14 @@ fn flash_encryption_c(answer: FlashEncryption) -> SkvFlashEncryption
     }
 }
 
-// Whether flash encryption is on. Refusals 1, the map's.
+// Whether flash encryption is on. Refusals 1, 20, the map's.
 #[no_mangle]
-pub extern "C" fn skv_s2_flash_encryption(dump: &[u32], map: &[u8]) -> SkvFlashEncryption
-    ensures { λ r. ⌜ r ≡ flashEncryptionC (flashEncryptionOf eight (now (dump .entry)) (now (map .entry))) ⌝ }
+pub extern "C" fn skv_s2_flash_encryption(
+    dump: &[u32],
+    lengths: &[u8],
+    map: &[u8],
+) -> SkvFlashEncryption
+    ensures { λ r. ⌜ r ≡ flashEncryptionC (flashEncryptionOf (now (lengths .entry)) (now (dump .entry)) (now (map .entry))) ⌝ }
 {
-    flash_encryption_c(encryption::flash_encryption(dump, map))
+    flash_encryption_c(encryption::flash_encryption(dump, lengths, map))
 }

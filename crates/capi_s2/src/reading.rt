@@ -8,28 +8,46 @@ ghost use Rattle.s2_readings.specs.declared.tag.RtcCalibParam.the-variants.{Vlo
 ghost use Rattle.s2_readings.specs.Reading.{calibReadingOf, skippedReadingOf};
 ghost use Rattle.capi.specs.Answer.{readingC};
 
-// The low-voltage reading, of version 1; 0 where it doesn't pair with the version. Refusals 1, 7.
+// The low-voltage reading, of version 1; 0 where it doesn't pair with the version. Refusals 1, 20, 7, 5.
 #[no_mangle]
-pub extern "C" fn skv_s2_reading_vlow(dump: &[u32], version: u8, unit: u8, atten: u8) -> SkvReading
-    ensures { λ r. ⌜ r ≡ readingC (calibReadingOf (now (dump .entry)) version unit atten Vlow) ⌝ }
+pub extern "C" fn skv_s2_reading_vlow(
+    dump: &[u32],
+    lengths: &[u8],
+    version: u8,
+    unit: u8,
+    atten: u8,
+) -> SkvReading
+    ensures { λ r. ⌜ r ≡ readingC (calibReadingOf (now (lengths .entry)) (now (dump .entry)) version unit atten Vlow) ⌝ }
 {
-    reading_c(reading::rtc_calib_reading(dump, version, unit, atten, RtcCalibParam::Vlow))
+    reading_c(reading::rtc_calib_reading(dump, lengths, version, unit, atten, RtcCalibParam::Vlow))
 }
 
-// The high-voltage reading; 0 where it doesn't pair with the version. Refusals 1, 7.
+// The high-voltage reading; 0 where it doesn't pair with the version. Refusals 1, 20, 7, 5.
 #[no_mangle]
-pub extern "C" fn skv_s2_reading_vhigh(dump: &[u32], version: u8, unit: u8, atten: u8) -> SkvReading
-    ensures { λ r. ⌜ r ≡ readingC (calibReadingOf (now (dump .entry)) version unit atten Vhigh) ⌝ }
+pub extern "C" fn skv_s2_reading_vhigh(
+    dump: &[u32],
+    lengths: &[u8],
+    version: u8,
+    unit: u8,
+    atten: u8,
+) -> SkvReading
+    ensures { λ r. ⌜ r ≡ readingC (calibReadingOf (now (lengths .entry)) (now (dump .entry)) version unit atten Vhigh) ⌝ }
 {
-    reading_c(reading::rtc_calib_reading(dump, version, unit, atten, RtcCalibParam::Vhigh))
+    reading_c(reading::rtc_calib_reading(dump, lengths, version, unit, atten, RtcCalibParam::Vhigh))
 }
 
-// The initial code, of version 2; 0 where it doesn't pair with the version. Refusals 1, 7.
+// The initial code, of version 2; 0 where it doesn't pair with the version. Refusals 1, 20, 7, 5.
 #[no_mangle]
-pub extern "C" fn skv_s2_reading_vinit(dump: &[u32], version: u8, unit: u8, atten: u8) -> SkvReading
-    ensures { λ r. ⌜ r ≡ readingC (calibReadingOf (now (dump .entry)) version unit atten Vinit) ⌝ }
+pub extern "C" fn skv_s2_reading_vinit(
+    dump: &[u32],
+    lengths: &[u8],
+    version: u8,
+    unit: u8,
+    atten: u8,
+) -> SkvReading
+    ensures { λ r. ⌜ r ≡ readingC (calibReadingOf (now (lengths .entry)) (now (dump .entry)) version unit atten Vinit) ⌝ }
 {
-    reading_c(reading::rtc_calib_reading(dump, version, unit, atten, RtcCalibParam::Vinit))
+    reading_c(reading::rtc_calib_reading(dump, lengths, version, unit, atten, RtcCalibParam::Vinit))
 }
 
 // The same of `skv_s2_reading_vlow` with the eFuse skipped, which takes no dump: the bases alone. Refusal 7.

@@ -6,7 +6,6 @@ use esp32s2::version;
 use esp32s2::version::Version;
 use terms::refusal;
 ghost use mathlib.Core.Path.{_≡_};
-ghost use Rattle.dumps.specs.Dump.{eight};
 ghost use Rattle.esp32s2.specs.Version.{calibVersionOf};
 ghost use Rattle.capi_s2.specs.Version.{versionC};
 
@@ -33,10 +32,10 @@ fn version_c(version: Version) -> SkvVersion
     }
 }
 
-// The calibration's version. Refusals 1, the map's.
+// The calibration's version. Refusals 1, 20, the map's.
 #[no_mangle]
-pub extern "C" fn skv_s2_version(dump: &[u32], map: &[u8]) -> SkvVersion
-    ensures { λ r. ⌜ r ≡ versionC (calibVersionOf eight (now (dump .entry)) (now (map .entry))) ⌝ }
+pub extern "C" fn skv_s2_version(dump: &[u32], lengths: &[u8], map: &[u8]) -> SkvVersion
+    ensures { λ r. ⌜ r ≡ versionC (calibVersionOf (now (lengths .entry)) (now (dump .entry)) (now (map .entry))) ⌝ }
 {
-    version_c(version::rtc_calib_version(dump, map))
+    version_c(version::rtc_calib_version(dump, lengths, map))
 }

@@ -1,4 +1,4 @@
--- Laws of dumps: one that isn't refused has 88 words, and one that has them isn't refused. Assumes nothing.
+-- Laws of dumps and their lists: one that isn't refused has 88 words, and its list is good; and the other way round. Assumes nothing.
 use mathlib.Core.Path.{_≡_}
 use mathlib.Core.Bool.{not}
 use mathlib.Core.List.{List}
@@ -8,12 +8,15 @@ use lib.Dec.{eqb}
 use borrow.Author.Tests.{eqb-true, not-false, eq-eqb}
 use Rattle.terms.proofs.Refusals.{refuse-none}
 use Rattle.dumps.specs.Dump.{dumpRefusal}
+use Rattle.dumps.specs.Lengths.{lengthsRefusal}
 
-module _ (dump : List ℕ) where
-  pub dump-whole : dumpRefusal dump ≡ 0 → length dump ≡ 88
+module _ (lengths dump : List ℕ) where
+  pub dump-whole : dumpRefusal lengths dump ≡ 0 → (length dump ≡ 88) × (lengthsRefusal lengths ≡ 0)
   unfolding dumpRefusal
-  dump-whole e = eqb-true _ _ (not-false _ (refuse-none (not (eqb (length dump) 88)) 0 0 e .0))
+  dump-whole e =
+      let p = refuse-none (not (eqb (length dump) 88)) 0 (lengthsRefusal lengths) e in
+      (eqb-true _ _ (not-false _ (p .0)), p .1)
 
-  pub whole-dump : length dump ≡ 88 → dumpRefusal dump ≡ 0
+  pub whole-dump : length dump ≡ 88 → dumpRefusal lengths dump ≡ lengthsRefusal lengths
   unfolding dumpRefusal
   whole-dump d = simp (eq-eqb _ _ d)

@@ -1,4 +1,5 @@
 pub mod Dumps
 pub mod Exactly
+pub mod Lists
 pub mod Unique
 pub mod Views

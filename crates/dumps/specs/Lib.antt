@@ -1,3 +1,5 @@
 pub mod Dump
+pub mod Lengths
+pub mod Private
 pub mod View
 pub mod When

@@ -14,12 +14,12 @@ read-paper : Paper refusalOf valueOf 0 Value Refused
 read-paper =
     record { good-refusal = λ v. refl; good-value = λ v. refl; refused-refusal = λ r. refl; refused-value = λ r. refl }
 
-module _ (words : ℕ → ℕ) (dump : List ℕ) (f : EfuseField) where
+module _ (lengths dump : List ℕ) (f : EfuseField) where
   -- `read_field_u8`, `read_field_u16`, `read_field_u32`, by the width
-  pub read-says : (width : ℕ) → Says refusalOf valueOf 0 (readOf width words dump f) (plain (readRefusal words dump f)) (fieldBits width dump f)
+  pub read-says : (width : ℕ) → Says refusalOf valueOf 0 (readOf width lengths dump f) (plain (readRefusal lengths dump f)) (fieldBits width dump f)
   unfolding readOf
   read-says width = says read-paper _ _
 
   -- `read_field_le`: what it writes is its only value
-  pub read-le-says : refusalOut (outcomeOf (readRefusal words dump f)) ≡ plain (readRefusal words dump f)
+  pub read-le-says : refusalOut (outcomeOf (readRefusal lengths dump f)) ≡ plain (readRefusal lengths dump f)
   read-le-says = outcome-says _

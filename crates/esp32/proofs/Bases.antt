@@ -40,13 +40,13 @@ module _ (dump map : List ℕ) (unit : ℕ) where
   source-vref e = rw (basis-vref e)
 
 -- where nothing of a dump and a map is refused
-module _ (words : ℕ → ℕ) (dump map : List ℕ) (good : fieldsRefusal words Esp32 dump map ≡ 0) where
+module _ (lengths dump map : List ℕ) (good : fieldsRefusal lengths Esp32 dump map ≡ 0) where
   -- record k's value is that of id 1 + k, and fits its bits
-  pub read : (k : ℕ) → k < 6 → {v : ℕ} → v ≡ recordValue words dump map k → v ≡ valueById Esp32 dump map (1 + k)
-  read k h = value-is words Esp32 dump map good (1 + k) k refl h
+  pub read : (k : ℕ) → k < 6 → {v : ℕ} → v ≡ recordValue lengths dump map k → v ≡ valueById Esp32 dump map (1 + k)
+  read k h = value-is lengths Esp32 dump map good (1 + k) k refl h
 
   fits : (k : ℕ) → k < 6 → valueById Esp32 dump map (1 + k) < 2 ^ countsOf (1 + k) .max
-  fits k h = value-fits words Esp32 dump map good (1 + k) k refl h _ (le-refl _)
+  fits k h = value-fits lengths Esp32 dump map good (1 + k) k refl h _ (le-refl _)
 
   pub vref-fits : valueById Esp32 dump map 1 < 32
   vref-fits = fits 0 (lit≤ tt)
@@ -66,7 +66,7 @@ module _ (words : ℕ → ℕ) (dump map : List ℕ) (good : fieldsRefusal words
     basis = basisOf dump map unit
 
     -- which basis it is by the fields in the order in which they are read, as a `return` asks it
-    module _ {reserve : ℕ} (r : reserve ≡ recordValue words dump map 1) where
+    module _ {reserve : ℕ} (r : reserve ≡ recordValue lengths dump map 1) where
       reserve-is : reserve ≡ valueById Esp32 dump map 2
       reserve-is = read 1 (lit≤ tt) r
 
@@ -74,7 +74,7 @@ module _ (words : ℕ → ℕ) (dump map : List ℕ) (good : fieldsRefusal words
       unfolding basisOf twoPointUsed
       no-reserve h = simp (← reserve-is, ne-eqb _ _ h)
 
-      module _ (one : reserve ≡ 1) {low1 : ℕ} (l : low1 ≡ recordValue words dump map 2) where
+      module _ (one : reserve ≡ 1) {low1 : ℕ} (l : low1 ≡ recordValue lengths dump map 2) where
         low1-is : low1 ≡ valueById Esp32 dump map 3
         low1-is = read 2 (lit≤ tt) l
 
@@ -82,7 +82,7 @@ module _ (words : ℕ → ℕ) (dump map : List ℕ) (good : fieldsRefusal words
         unfolding basisOf twoPointUsed
         no-low1 h = simp (← reserve-is, eq-eqb _ _ one, ← low1-is, eq-eqb _ _ h)
 
-        module _ (some-low1 : low1 ≡ 0 → ⊥) {low2 : ℕ} (m : low2 ≡ recordValue words dump map 3) where
+        module _ (some-low1 : low1 ≡ 0 → ⊥) {low2 : ℕ} (m : low2 ≡ recordValue lengths dump map 3) where
           low2-is : low2 ≡ valueById Esp32 dump map 4
           low2-is = read 3 (lit≤ tt) m
 
@@ -90,7 +90,7 @@ module _ (words : ℕ → ℕ) (dump map : List ℕ) (good : fieldsRefusal words
           unfolding basisOf twoPointUsed
           no-low2 h = simp (← reserve-is, eq-eqb _ _ one, ← low1-is, ne-eqb _ _ some-low1, ← low2-is, eq-eqb _ _ h)
 
-          module _ (some-low2 : low2 ≡ 0 → ⊥) {high1 : ℕ} (n : high1 ≡ recordValue words dump map 4) where
+          module _ (some-low2 : low2 ≡ 0 → ⊥) {high1 : ℕ} (n : high1 ≡ recordValue lengths dump map 4) where
             high1-is : high1 ≡ valueById Esp32 dump map 5
             high1-is = read 4 (lit≤ tt) n
 
@@ -103,7 +103,7 @@ module _ (words : ℕ → ℕ) (dump map : List ℕ) (good : fieldsRefusal words
             pub no-high1 : high1 ≡ 0 → Vref ≡ basis
             no-high1 h = sym (basis-vref dump map unit (used ∙ rw (eq-eqb _ _ h)))
 
-            module _ (some-high1 : high1 ≡ 0 → ⊥) {high2 : ℕ} (o : high2 ≡ recordValue words dump map 5) where
+            module _ (some-high1 : high1 ≡ 0 → ⊥) {high2 : ℕ} (o : high2 ≡ recordValue lengths dump map 5) where
               high2-is : high2 ≡ valueById Esp32 dump map 6
               high2-is = read 5 (lit≤ tt) o
 

@@ -35,12 +35,12 @@ unfolding bRefusal basisRefusal
 basis-plain unit atten (TwoPoint low high) = refuse-plain (ltZ (bOf (topOf (lowOf unit low) (highOf unit high)) (tpOffset unit atten)) (pos 0)) 9 refl
 basis-plain unit atten Vref = refl
 
-module _ (words : ℕ → ℕ) (dump map : List ℕ) (unit atten : ℕ) where
+module _ (lengths dump map : List ℕ) (unit atten : ℕ) where
   abbrev input : ℕ
-  input = decodingRefusal words Esp32 dump map unit atten
+  input = decodingRefusal lengths Esp32 dump map unit atten
 
   abbrev decoding : ℕ
-  decoding = decodeRefusal words dump map unit atten
+  decoding = decodeRefusal lengths dump map unit atten
 
   -- which case a decoding's refusal is
   pub decode-input : {n : ℕ} → n ≡ input → (n ≡ 0 → ⊥) → n ≡ decoding
@@ -53,40 +53,40 @@ module _ (words : ℕ → ℕ) (dump map : List ℕ) (unit atten : ℕ) where
   decode-basis e s h = h ∙ rw (s, e)
 
   -- and what it tells
-  pub decode-passed-on : {why : Refusal} → why ≡ toldOf words Esp32 map input → (why .number ≡ 0 → ⊥) → why ≡ toldOf words Esp32 map decoding
+  pub decode-passed-on : {why : Refusal} → why ≡ toldOf lengths Esp32 map input → (why .number ≡ 0 → ⊥) → why ≡ toldOf lengths Esp32 map decoding
   decode-passed-on e h =
-      let n = told-is-number words map Esp32 e in told-same words map Esp32 e (sym (decode-input n h) ∙ n)
+      let n = told-is-number lengths map Esp32 e in told-same lengths map Esp32 e (sym (decode-input n h) ∙ n)
 
   pub decode-nine : input ≡ 0 → {basis : Basis} → basis ≡ basisOf dump map unit → {n : ℕ} → n ≡ basisRefusal unit atten basis
-      → {why : Refusal} → why ≡ plain n → why ≡ toldOf words Esp32 map decoding
-  decode-nine e s h p = told-as words map Esp32 p (rw h (basis-plain unit atten _)) (sym (decode-basis e s h))
+      → {why : Refusal} → why ≡ plain n → why ≡ toldOf lengths Esp32 map decoding
+  decode-nine e s h p = told-as lengths map Esp32 p (rw h (basis-plain unit atten _)) (sym (decode-basis e s h))
 
   -- what is known where nothing is refused
   pub decode-good : decoding ≡ 0
-      → (fieldsRefusal words Esp32 dump map ≡ 0) × ((unit ≤ 1) × (atten ≤ 3)) × (basisRefusal unit atten (basisOf dump map unit) ≡ 0)
+      → (fieldsRefusal lengths Esp32 dump map ≡ 0) × ((unit ≤ 1) × (atten ≤ 3)) × (basisRefusal unit atten (basisOf dump map unit) ≡ 0)
   unfolding decodeRefusal
   decode-good e =
       let p = orElse-none input _ e in
-      let good = decoding-good words Esp32 dump map unit atten (p .0) in
+      let good = decoding-good lengths Esp32 dump map unit atten (p .0) in
       (good .0, good .1, p .1)
 
   -- which case a decoding is, as a `return` asks it
-  pub decode-refused : {why : Refusal} → why ≡ toldOf words Esp32 map decoding → (why .number ≡ 0 → ⊥)
-      → Refused why ≡ decodeOf words dump map unit atten
+  pub decode-refused : {why : Refusal} → why ≡ toldOf lengths Esp32 map decoding → (why .number ≡ 0 → ⊥)
+      → Refused why ≡ decodeOf lengths dump map unit atten
   unfolding decodeOf
   decode-refused e h = told-refused _ _ Refused e h
 
   pub decode-record : {r : LineRecord} → decoding ≡ 0 → r ≡ decodedRecord dump map unit atten
-      → Record r ≡ decodeOf words dump map unit atten
+      → Record r ≡ decodeOf lengths dump map unit atten
   unfolding decodeOf
-  decode-record e r = map-good words map Esp32 _ Refused e (ap Record r)
+  decode-record e r = map-good lengths map Esp32 _ Refused e (ap Record r)
 
   -- what is decoded passes the record check
   pub decoded-passes : decoding ≡ 0 → recordRefusal (decodedRecord dump map unit atten) ≡ 0
   unfolding decodedRecord foundOf
   decoded-passes e =
       let good = decode-good e in
-      let vref = vref-range (vref-fits words dump map (good .0)) in
+      let vref = vref-range (vref-fits lengths dump map (good .0)) in
       let mv : ℕ = vrefOf (valueById Esp32 dump map 1) in
       let line = line-ranges unit atten mv (basisOf dump map unit) (vref .1) (good .2) in
       record-good _

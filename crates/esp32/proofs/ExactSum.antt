@@ -9,10 +9,10 @@ use Rattle.esp32.proofs.Decoding.{decode-good}
 use Rattle.esp32.proofs.Says.{record-none, record-is}
 use Rattle.esp32.proofs.Bases.{basis-two-point}
 
-module _ (words : ℕ → ℕ) (dump map : List ℕ) (unit atten : ℕ) where
-  pub exact-sum : ExactSum words dump map unit atten
+module _ (lengths dump map : List ℕ) (unit atten : ℕ) where
+  pub exact-sum : ExactSum lengths dump map unit atten
   unfolding decodedRecord foundOf coefficientsOf basisRefusal
   exact-sum r e t =
       let two = basis-two-point dump map unit t in
-      let good = decode-good words dump map unit atten (record-none words dump map unit atten e) .2 in
-      rw (record-is words dump map unit atten e, two) (two-point-b-exact _ _ (rw two at good))
+      let good = decode-good lengths dump map unit atten (record-none lengths dump map unit atten e) .2 in
+      rw (record-is lengths dump map unit atten e, two) (two-point-b-exact _ _ (rw two at good))

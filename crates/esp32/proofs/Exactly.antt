@@ -19,15 +19,15 @@ use Rattle.esp32.proofs.Coefficients.{b-negative, b-not-negative, b-ref
 use Rattle.esp32.proofs.Bases.{basis-two-point, basis-vref}
 use Rattle.esp32.proofs.Decoding.{decode-input, decode-basis}
 
-module _ (words : ℕ → ℕ) (dump map : List ℕ) (unit atten : ℕ) where
+module _ (lengths dump map : List ℕ) (unit atten : ℕ) where
   abbrev number : ℕ
-  number = decodeRefusal words dump map unit atten
+  number = decodeRefusal lengths dump map unit atten
 
   abbrev Before : ℕ → Type 0
-  Before n = DecodingWhen words Esp32 dump map unit atten n
+  Before n = DecodingWhen lengths Esp32 dump map unit atten n
 
-  abbrev input : Exactly (decodingRefusal words Esp32 dump map unit atten) Before
-  input = decoding-exactly words Esp32 dump map unit atten
+  abbrev input : Exactly (decodingRefusal lengths Esp32 dump map unit atten) Before
+  input = decoding-exactly lengths Esp32 dump map unit atten
 
   -- the unit's b at the attenuation, and the number that its basis gives
   abbrev b : ℤ
@@ -51,13 +51,13 @@ module _ (words : ℕ → ℕ) (dump map : List ℕ) (unit atten : ℕ) where
   by-basis : Before 0 → {n : ℕ} → basis ≡ n → number ≡ n
   by-basis k e = sym (decode-basis _ _ _ _ _ (input 0 .1 k) refl (sym e))
 
-  decode-gives : (n : ℕ) → DecodeWhen words dump map unit atten n → number ≡ n
+  decode-gives : (n : ℕ) → DecodeWhen lengths dump map unit atten n → number ≡ n
   decode-gives n (before k some) = sym (decode-input _ _ _ _ _ (sym (input n .1 k)) some)
   decode-gives _ (underflow k t h) = by-basis k (basis-underflow t h)
   decode-gives _ (decoded k h) =
       whether (twoPointUsed dump map) (λ t. by-basis k (basis-good t (h t))) (λ t. by-basis k (basis-never t))
 
-  basis-some : Before 0 → Some (DecodeWhen words dump map unit atten)
+  basis-some : Before 0 → Some (DecodeWhen lengths dump map unit atten)
   basis-some k =
       whether (twoPointUsed dump map)
       (λ t.
@@ -66,5 +66,5 @@ module _ (words : ℕ → ℕ) (dump map : List ℕ) (unit atten : ℕ) where
       (λ h. (9, underflow k t (b-negative _ _ h))))
       (λ t. (0, decoded k (λ s. absurd (true≢false (sym s ∙ t)))))
 
-  pub decode-exactly : Exactly number (DecodeWhen words dump map unit atten)
+  pub decode-exactly : Exactly number (DecodeWhen lengths dump map unit atten)
   decode-exactly = exactly decode-gives (by-first input basis-some (λ n k some. (n, before k some)))

@@ -17,21 +17,21 @@ pub decoded-paper : Paper refusalOf valueOf noRecord Record Refused
 decoded-paper =
     record { good-refusal = λ v. refl; good-value = λ v. refl; refused-refusal = λ r. refl; refused-value = λ r. refl }
 
-module _ (words : ℕ → ℕ) (dump map : List ℕ) (unit atten : ℕ) where
+module _ (lengths dump map : List ℕ) (unit atten : ℕ) where
   -- `decode`
   pub decode-says : Says refusalOf valueOf noRecord
-      (decodeOf words dump map unit atten) (toldOf words Esp32 map (decodeRefusal words dump map unit atten)) (decodedRecord dump map unit atten)
+      (decodeOf lengths dump map unit atten) (toldOf lengths Esp32 map (decodeRefusal lengths dump map unit atten)) (decodedRecord dump map unit atten)
   unfolding decodeOf
-  decode-says = map-says words map Esp32 decoded-paper _ _
+  decode-says = map-says lengths map Esp32 decoded-paper _ _
 
   -- the number of what `decode` answers
-  pub number-says : refusalOf (decodeOf words dump map unit atten) .number ≡ decodeRefusal words dump map unit atten
-  number-says = told-is-number words map Esp32 (decode-says .refusal-is)
+  pub number-says : refusalOf (decodeOf lengths dump map unit atten) .number ≡ decodeRefusal lengths dump map unit atten
+  number-says = told-is-number lengths map Esp32 (decode-says .refusal-is)
 
   -- where it answers a record, nothing is refused, and the record is the decoded one
-  module _ {r : LineRecord} (e : decodeOf words dump map unit atten ≡ Record r) where
-    pub record-none : decodeRefusal words dump map unit atten ≡ 0
+  module _ {r : LineRecord} (e : decodeOf lengths dump map unit atten ≡ Record r) where
+    pub record-none : decodeRefusal lengths dump map unit atten ≡ 0
     record-none = sym number-says ∙ number-is (ap refusalOf e)
 
     pub record-is : r ≡ decodedRecord dump map unit atten
-    record-is = sym (ap valueOf e) ∙ decode-says .value-is ∙ byNumber-good _ _ _ (told-number words map Esp32 _ ∙ record-none)
+    record-is = sym (ap valueOf e) ∙ decode-says .value-is ∙ byNumber-good _ _ _ (told-number lengths map Esp32 _ ∙ record-none)

@@ -16,14 +16,14 @@ use Rattle.esp32.specs.When.{DecodeWhen, before, underflow, decoded}
 use Rattle.esp32.proofs.Exactly.{decode-exactly}
 use Rattle.esp32.proofs.Says.{decode-says}
 
-module _ (words : ℕ → ℕ) (dump map : List ℕ) (unit atten : ℕ) where
-  pub decode-of-map : (n : ℕ) → DecodeWhen words dump map unit atten n → ofRecord n ≡ true → MapWhen words Esp32 map n
-  decode-of-map n (before k some) t = decoding-of-map words Esp32 dump map unit atten n k t
+module _ (lengths dump map : List ℕ) (unit atten : ℕ) where
+  pub decode-of-map : (n : ℕ) → DecodeWhen lengths dump map unit atten n → ofRecord n ≡ true → MapWhen lengths Esp32 map n
+  decode-of-map n (before k some) t = decoding-of-map lengths Esp32 dump map unit atten n k t
   decode-of-map n (underflow k u b) t = absurd (true≢false (sym t))
   decode-of-map n (decoded k b) t = absurd (true≢false (sym t))
 
   -- `decode`
-  pub decode-told : Exactly (refusalOf (decodeOf words dump map unit atten)) (ToldWhen words Esp32 map (DecodeWhen words dump map unit atten))
+  pub decode-told : Exactly (refusalOf (decodeOf lengths dump map unit atten)) (ToldWhen lengths Esp32 map (DecodeWhen lengths dump map unit atten))
   decode-told =
-      rw (decode-says words dump map unit atten .refusal-is)
-      (told-exactly words map Esp32 (decode-exactly words dump map unit atten) (decode-of-map))
+      rw (decode-says lengths dump map unit atten .refusal-is)
+      (told-exactly lengths map Esp32 (decode-exactly lengths dump map unit atten) (decode-of-map))

@@ -9,7 +9,7 @@ use Rattle.esp32.specs.TrueSource.{SaysTrue, TrueSource}
 use Rattle.esp32.proofs.Bases.{source-two-point, source-vref}
 use Rattle.esp32.proofs.Says.{record-is}
 
-module _ (words : ℕ → ℕ) (dump map : List ℕ) (unit atten : ℕ) where
+module _ (lengths dump map : List ℕ) (unit atten : ℕ) where
   decoded-says-true : SaysTrue dump map unit atten (decodedRecord dump map unit atten)
   unfolding decodedRecord foundOf
   decoded-says-true =
@@ -22,5 +22,5 @@ module _ (words : ℕ → ℕ) (dump map : List ℕ) (unit atten : ℕ) where
         at-atten = refl;
       }
 
-  pub true-source : TrueSource words dump map unit atten
-  true-source r e = rw (record-is words dump map unit atten e) decoded-says-true
+  pub true-source : TrueSource lengths dump map unit atten
+  true-source r e = rw (record-is lengths dump map unit atten e) decoded-says-true

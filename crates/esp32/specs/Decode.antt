@@ -72,12 +72,12 @@ unfoldable pub decodedRecord : List ℕ → List ℕ → ℕ → ℕ → LineRec
 decodedRecord dump map unit atten = recordFrom (foundOf dump map unit atten) unit atten
 
 -- 1, 7 and those of the map, then 9
-unfoldable pub decodeRefusal : (ℕ → ℕ) → List ℕ → List ℕ → ℕ → ℕ → ℕ
-decodeRefusal words dump map unit atten =
-    orElse (decodingRefusal words Esp32 dump map unit atten)
+unfoldable pub decodeRefusal : List ℕ → List ℕ → List ℕ → ℕ → ℕ → ℕ
+decodeRefusal lengths dump map unit atten =
+    orElse (decodingRefusal lengths Esp32 dump map unit atten)
     (basisRefusal unit atten (basisOf dump map unit))
 
 -- "Decoding answers a record or one number"
-unfoldable pub decodeOf : (ℕ → ℕ) → List ℕ → List ℕ → ℕ → ℕ → Decoded
-decodeOf words dump map unit atten =
-    told (toldOf words Esp32 map (decodeRefusal words dump map unit atten)) (Record (decodedRecord dump map unit atten)) Refused
+unfoldable pub decodeOf : List ℕ → List ℕ → List ℕ → ℕ → ℕ → Decoded
+decodeOf lengths dump map unit atten =
+    told (toldOf lengths Esp32 map (decodeRefusal lengths dump map unit atten)) (Record (decodedRecord dump map unit atten)) Refused

@@ -11,7 +11,7 @@ use Rattle.esp32.specs.Decode.{twoPointUsed, decodeOf}
 use Rattle.esp32.specs.When.{bFor}
 
 -- wherever decoding by two points answers a record
-abbrev pub ExactSum : (ℕ → ℕ) → List ℕ → List ℕ → ℕ → ℕ → Type 0
-ExactSum words dump map unit atten =
-    (r : LineRecord) → decodeOf words dump map unit atten ≡ Record r → twoPointUsed dump map ≡ true
+abbrev pub ExactSum : List ℕ → List ℕ → List ℕ → ℕ → ℕ → Type 0
+ExactSum lengths dump map unit atten =
+    (r : LineRecord) → decodeOf lengths dump map unit atten ≡ Record r → twoPointUsed dump map ≡ true
     → pos (r .«coeff_b») ≡ bFor dump map unit atten

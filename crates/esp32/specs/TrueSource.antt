@@ -16,6 +16,6 @@ pub record SaysTrue (dump map : List ℕ) (unit atten : ℕ) (r : LineRecord) : 
   pub at-atten : r .atten ≡ atten
 
 -- wherever decoding answers a record
-abbrev pub TrueSource : (ℕ → ℕ) → List ℕ → List ℕ → ℕ → ℕ → Type 0
-TrueSource words dump map unit atten =
-    (r : LineRecord) → decodeOf words dump map unit atten ≡ Record r → SaysTrue dump map unit atten r
+abbrev pub TrueSource : List ℕ → List ℕ → List ℕ → ℕ → ℕ → Type 0
+TrueSource lengths dump map unit atten =
+    (r : LineRecord) → decodeOf lengths dump map unit atten ≡ Record r → SaysTrue dump map unit atten r

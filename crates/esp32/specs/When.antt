@@ -23,9 +23,9 @@ bFor dump map unit atten = bOf (topFor dump map unit) (tpOffset unit atten)
 
 -- 1, 7 and those of the map
 -- 9: "two-point coefficient underflow": "b is the whole number 850 − t + offset, and refusal 9 is given exactly if it is negative"
-pub data DecodeWhen (words : ℕ → ℕ) (dump map : List ℕ) (unit atten : ℕ) : ℕ → Type 0 where
-  before : {n : ℕ} → DecodingWhen words Esp32 dump map unit atten n → (n ≡ 0 → ⊥) → DecodeWhen words dump map unit atten n
-  underflow : DecodingWhen words Esp32 dump map unit atten 0 → twoPointUsed dump map ≡ true → bFor dump map unit atten <ℤ pos 0
-      → DecodeWhen words dump map unit atten 9
-  decoded : DecodingWhen words Esp32 dump map unit atten 0 → (twoPointUsed dump map ≡ true → pos 0 ≤ℤ bFor dump map unit atten)
-      → DecodeWhen words dump map unit atten 0
+pub data DecodeWhen (lengths dump map : List ℕ) (unit atten : ℕ) : ℕ → Type 0 where
+  before : {n : ℕ} → DecodingWhen lengths Esp32 dump map unit atten n → (n ≡ 0 → ⊥) → DecodeWhen lengths dump map unit atten n
+  underflow : DecodingWhen lengths Esp32 dump map unit atten 0 → twoPointUsed dump map ≡ true → bFor dump map unit atten <ℤ pos 0
+      → DecodeWhen lengths dump map unit atten 9
+  decoded : DecodingWhen lengths Esp32 dump map unit atten 0 → (twoPointUsed dump map ≡ true → pos 0 ≤ℤ bFor dump map unit atten)
+      → DecodeWhen lengths dump map unit atten 0

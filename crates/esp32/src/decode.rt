@@ -13,7 +13,6 @@ use vref::coefficients::Coefficients;
 ghost use mathlib.Core.Path.{_≡_};
 ghost use Prim.Native.Nat.{_<_};
 ghost use Rattle.terms.specs.declared.chip.MapChip.the-variants.{Esp32};
-ghost use Rattle.dumps.specs.Dump.{eight};
 ghost use Rattle.inputs.specs.Input.{fieldsRefusal};
 ghost use Rattle.esp32.specs.Decode.{basisOf, sourceOf, foundOf, recordFrom, decodeRefusal, decodeOf};
 
@@ -38,26 +37,26 @@ pub(crate) struct Found {
 }
 
 // Where a unit's a and b come from. In esp-hal: `check_efuse_tp`.
-fn basis(dump: &[u32], map: &[u8], unit: u8) -> Basis
-    requires { ⌜ fieldsRefusal eight Esp32 (now dump) (now map) ≡ 0 ⌝ }
+fn basis(dump: &[u32], lengths: &[u8], map: &[u8], unit: u8) -> Basis
+    requires { ⌜ fieldsRefusal (now lengths) Esp32 (now dump) (now map) ≡ 0 ⌝ }
     ensures { λ r. ⌜ r ≡ basisOf (now (dump .entry)) (now (map .entry)) unit ⌝ }
 {
-    if record_value(dump, map, BLK3_PART_RESERVE) != 1 {
+    if record_value(dump, lengths, map, BLK3_PART_RESERVE) != 1 {
         return Basis::Vref;
     }
-    let low1 = record_value(dump, map, ADC1_TP_LOW);
+    let low1 = record_value(dump, lengths, map, ADC1_TP_LOW);
     if low1 == 0 {
         return Basis::Vref;
     }
-    let low2 = record_value(dump, map, ADC2_TP_LOW);
+    let low2 = record_value(dump, lengths, map, ADC2_TP_LOW);
     if low2 == 0 {
         return Basis::Vref;
     }
-    let high1 = record_value(dump, map, ADC1_TP_HIGH);
+    let high1 = record_value(dump, lengths, map, ADC1_TP_HIGH);
     if high1 == 0 {
         return Basis::Vref;
     }
-    let high2 = record_value(dump, map, ADC2_TP_HIGH);
+    let high2 = record_value(dump, lengths, map, ADC2_TP_HIGH);
     if high2 == 0 {
         return Basis::Vref;
     }
@@ -68,11 +67,11 @@ fn basis(dump: &[u32], map: &[u8], unit: u8) -> Basis
 }
 
 // What the record of a unit at an attenuation is made from, where nothing is refused.
-fn find(dump: &[u32], map: &[u8], unit: u8, atten: u8, basis: Basis) -> Found
-    requires { ⌜ (decodeRefusal eight (now dump) (now map) unit atten ≡ 0) × (basis ≡ basisOf (now dump) (now map) unit) ⌝ }
+fn find(dump: &[u32], lengths: &[u8], map: &[u8], unit: u8, atten: u8, basis: Basis) -> Found
+    requires { ⌜ (decodeRefusal (now lengths) (now dump) (now map) unit atten ≡ 0) × (basis ≡ basisOf (now dump) (now map) unit) ⌝ }
     ensures { λ r. ⌜ r ≡ foundOf (now (dump .entry)) (now (map .entry)) unit atten ⌝ }
 {
-    let vref = record_value(dump, map, ADC_VREF);
+    let vref = record_value(dump, lengths, map, ADC_VREF);
     let line = characterize::characterize(unit, atten, code::efuse_vref(vref), basis);
     Found { basis, vref, line }
 }
@@ -104,19 +103,19 @@ fn record_from(found: Found, unit: u8, atten: u8) -> LineRecord
     }
 }
 
-// The line record of a unit at an attenuation, from a dump and its map. It passes `check_record`. Any dump, map, unit and
-// attenuation are answered; refusals 1, 7, then the map's, then 9.
-pub fn decode(dump: &[u32], map: &[u8], unit: u8, atten: u8) -> Decoded
-    ensures { λ r. ⌜ r ≡ decodeOf eight (now (dump .entry)) (now (map .entry)) unit atten ⌝ }
+// The line record of a unit at an attenuation, from a dump and its map. It passes `check_record`. Any dump, lengths, map, unit and
+// attenuation are answered; refusals 1, 20, 7, then the map's, then 9.
+pub fn decode(dump: &[u32], lengths: &[u8], map: &[u8], unit: u8, atten: u8) -> Decoded
+    ensures { λ r. ⌜ r ≡ decodeOf (now (lengths .entry)) (now (dump .entry)) (now (map .entry)) unit atten ⌝ }
 {
-    let why = decoding_refusal(MapChip::Esp32, dump, map, unit, atten);
+    let why = decoding_refusal(MapChip::Esp32, dump, lengths, map, unit, atten);
     if why.number != refusal::NONE {
         return Decoded::Refused(why);
     }
-    let basis = basis(dump, map, unit);
+    let basis = basis(dump, lengths, map, unit);
     let number = characterize::basis_refusal(unit, atten, basis);
     if number != refusal::NONE {
         return Decoded::Refused(refusal::plain(number));
     }
-    Decoded::Record(record_from(find(dump, map, unit, atten, basis), unit, atten))
+    Decoded::Record(record_from(find(dump, lengths, map, unit, atten, basis), unit, atten))
 }

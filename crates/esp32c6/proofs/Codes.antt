@@ -26,22 +26,22 @@ pub version-plain : (minor : ℕ) → ofRecord (versionRefusal minor) ≡ false
 unfolding versionRefusal
 version-plain minor = refuse-plain (not (eqb (versionOf minor) 1 || eqb (versionOf minor) 2)) 12 refl
 
-module _ (words : ℕ → ℕ) (dump map : List ℕ) (minor unit atten : ℕ) where
+module _ (lengths dump map : List ℕ) (minor unit atten : ℕ) where
   -- which case the refusal of a code is
-  module _ {n : ℕ} (e : n ≡ decodingRefusal words C6 dump map unit atten) where
-    pub code-decoding : (n ≡ 0 → ⊥) → n ≡ codeRefusal words dump map minor unit atten
+  module _ {n : ℕ} (e : n ≡ decodingRefusal lengths C6 dump map unit atten) where
+    pub code-decoding : (n ≡ 0 → ⊥) → n ≡ codeRefusal lengths dump map minor unit atten
     unfolding codeRefusal
     code-decoding h = rw (← e) (sym (orElse-some n _ h))
 
-    pub code-version : n ≡ 0 → codeRefusal words dump map minor unit atten ≡ versionRefusal minor
+    pub code-version : n ≡ 0 → codeRefusal lengths dump map minor unit atten ≡ versionRefusal minor
     unfolding codeRefusal
     code-version z = simp (sym e ∙ z)
 
   -- where none is given, the fields may be read
-  pub code-good : codeRefusal words dump map minor unit atten ≡ 0 → (fieldsRefusal words C6 dump map ≡ 0) × (atten ≤ 3)
+  pub code-good : codeRefusal lengths dump map minor unit atten ≡ 0 → (fieldsRefusal lengths C6 dump map ≡ 0) × (atten ≤ 3)
   unfolding codeRefusal
   code-good e =
-      let p = decoding-good words C6 dump map unit atten (orElse-none (decodingRefusal words C6 dump map unit atten) _ e .0) in
+      let p = decoding-good lengths C6 dump map unit atten (orElse-none (decodingRefusal lengths C6 dump map unit atten) _ e .0) in
       (p .0, p .1 .1)
 
 -- an offset is one of three

@@ -15,24 +15,24 @@ use Rattle.esp32c6.specs.Channel.{compensOf, chanCompensOf}
 use Rattle.esp32c6.specs.Code.{codeRefusal, initCodeOf, calCode, calCodeOf}
 use Rattle.terms.specs.C6Version.{versionOf}
 
-module _ (words : ℕ → ℕ) (dump map : List ℕ) (minor unit atten : ℕ) where
+module _ (lengths dump map : List ℕ) (minor unit atten : ℕ) where
   -- `rtc_calib_init_code`
   pub init-code-says : Says code.refusalOf code.valueOf 0
-      (initCodeOf words dump map minor unit atten) (toldOf words C6 map (codeRefusal words dump map minor unit atten)) (valueById C6 dump map (9 + atten) + 1600)
+      (initCodeOf lengths dump map minor unit atten) (toldOf lengths C6 map (codeRefusal lengths dump map minor unit atten)) (valueById C6 dump map (9 + atten) + 1600)
   unfolding initCodeOf
-  init-code-says = map-says words map C6 code-paper _ _
+  init-code-says = map-says lengths map C6 code-paper _ _
 
   -- `rtc_calib_cal_code`
   pub cal-code-says : Says code.refusalOf code.valueOf 0
-      (calCodeOf words dump map minor unit atten) (toldOf words C6 map (codeRefusal words dump map minor unit atten))
+      (calCodeOf lengths dump map minor unit atten) (toldOf lengths C6 map (codeRefusal lengths dump map minor unit atten))
       (natAbs (calCode (versionOf minor) atten (valueById C6 dump map (13 + atten))))
   unfolding calCodeOf
-  cal-code-says = map-says words map C6 code-paper _ _
+  cal-code-says = map-says lengths map C6 code-paper _ _
 
 -- `rtc_calib_get_chan_compens`
-pub compens-says : (words : ℕ → ℕ) (dump map : List ℕ) (unit channel atten : ℕ)
+pub compens-says : (lengths dump map : List ℕ) (unit channel atten : ℕ)
     → Says reading.refusalOf reading.valueOf (pos 0)
-    (chanCompensOf words dump map unit channel atten) (toldOf words C6 map (decodingRefusal words C6 dump map unit atten))
+    (chanCompensOf lengths dump map unit channel atten) (toldOf lengths C6 map (decodingRefusal lengths C6 dump map unit atten))
     (compensOf atten (valueById C6 dump map (17 + min channel 6)))
 unfolding chanCompensOf
-compens-says words dump map unit channel atten = map-says words map C6 reading-paper _ _
+compens-says lengths dump map unit channel atten = map-says lengths map C6 reading-paper _ _

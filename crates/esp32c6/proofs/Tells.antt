@@ -19,26 +19,26 @@ use Rattle.esp32c6.specs.When.{CodeWhen, before, bad-version, good-versi
 use Rattle.esp32c6.proofs.Exactly.{code-exactly}
 use Rattle.esp32c6.proofs.Says.{init-code-says, cal-code-says, compens-says}
 
-module _ (words : ℕ → ℕ) (dump map : List ℕ) (minor unit atten : ℕ) where
-  code-of-map : (n : ℕ) → CodeWhen words dump map minor unit atten n → ofRecord n ≡ true → MapWhen words C6 map n
-  code-of-map n (before k some) t = decoding-of-map words C6 dump map unit atten n k t
+module _ (lengths dump map : List ℕ) (minor unit atten : ℕ) where
+  code-of-map : (n : ℕ) → CodeWhen lengths dump map minor unit atten n → ofRecord n ≡ true → MapWhen lengths C6 map n
+  code-of-map n (before k some) t = decoding-of-map lengths C6 dump map unit atten n k t
   code-of-map n (bad-version k v w) t = absurd (true≢false (sym t))
   code-of-map n (good-version k v) t = absurd (true≢false (sym t))
 
   -- `rtc_calib_init_code`
-  pub init-code-told : Exactly (code.refusalOf (initCodeOf words dump map minor unit atten)) (ToldWhen words C6 map (CodeWhen words dump map minor unit atten))
+  pub init-code-told : Exactly (code.refusalOf (initCodeOf lengths dump map minor unit atten)) (ToldWhen lengths C6 map (CodeWhen lengths dump map minor unit atten))
   init-code-told =
-      rw (init-code-says words dump map minor unit atten .refusal-is)
-      (told-exactly words map C6 (code-exactly words dump map minor unit atten) code-of-map)
+      rw (init-code-says lengths dump map minor unit atten .refusal-is)
+      (told-exactly lengths map C6 (code-exactly lengths dump map minor unit atten) code-of-map)
 
   -- `rtc_calib_cal_code`
-  pub cal-code-told : Exactly (code.refusalOf (calCodeOf words dump map minor unit atten)) (ToldWhen words C6 map (CodeWhen words dump map minor unit atten))
+  pub cal-code-told : Exactly (code.refusalOf (calCodeOf lengths dump map minor unit atten)) (ToldWhen lengths C6 map (CodeWhen lengths dump map minor unit atten))
   cal-code-told =
-      rw (cal-code-says words dump map minor unit atten .refusal-is)
-      (told-exactly words map C6 (code-exactly words dump map minor unit atten) code-of-map)
+      rw (cal-code-says lengths dump map minor unit atten .refusal-is)
+      (told-exactly lengths map C6 (code-exactly lengths dump map minor unit atten) code-of-map)
 
 -- `rtc_calib_get_chan_compens`
-pub compens-told : (words : ℕ → ℕ) (dump map : List ℕ) (unit channel atten : ℕ)
-    → Exactly (reading.refusalOf (chanCompensOf words dump map unit channel atten)) (ToldWhen words C6 map (DecodingWhen words C6 dump map unit atten))
-compens-told words dump map unit channel atten =
-    rw (compens-says words dump map unit channel atten .refusal-is) (decoding-told words C6 dump map unit atten)
+pub compens-told : (lengths dump map : List ℕ) (unit channel atten : ℕ)
+    → Exactly (reading.refusalOf (chanCompensOf lengths dump map unit channel atten)) (ToldWhen lengths C6 map (DecodingWhen lengths C6 dump map unit atten))
+compens-told lengths dump map unit channel atten =
+    rw (compens-says lengths dump map unit channel atten .refusal-is) (decoding-told lengths C6 dump map unit atten)

@@ -17,8 +17,8 @@ unfoldable pub compensOf : ℕ → ℕ → ℤ
 compensOf atten bits = signMagnitude 4 bits *ℤ pos (4 - atten)
 
 -- by the bits of ADC1_INIT_CODE_ATTEN0_CH0..6, ids 17 to 23: "Channels 6 and up use channel 6"
-unfoldable pub chanCompensOf : (ℕ → ℕ) → List ℕ → List ℕ → ℕ → ℕ → ℕ → Reading
-chanCompensOf words dump map unit channel atten =
-    told (toldOf words C6 map (decodingRefusal words C6 dump map unit atten))
+unfoldable pub chanCompensOf : List ℕ → List ℕ → List ℕ → ℕ → ℕ → ℕ → Reading
+chanCompensOf lengths dump map unit channel atten =
+    told (toldOf lengths C6 map (decodingRefusal lengths C6 dump map unit atten))
     (Value (compensOf atten (valueById C6 dump map (17 + min channel 6))))
     Refused

@@ -21,15 +21,15 @@ unfoldable pub versionRefusal : ℕ → ℕ
 versionRefusal minor = refuse (not (eqb (versionOf minor) 1 || eqb (versionOf minor) 2)) 12 0
 
 -- 1, 7 and those of the map, then 12
-unfoldable pub codeRefusal : (ℕ → ℕ) → List ℕ → List ℕ → ℕ → ℕ → ℕ → ℕ
-codeRefusal words dump map minor unit atten =
-    orElse (decodingRefusal words C6 dump map unit atten)
+unfoldable pub codeRefusal : List ℕ → List ℕ → List ℕ → ℕ → ℕ → ℕ → ℕ
+codeRefusal lengths dump map minor unit atten =
+    orElse (decodingRefusal lengths C6 dump map unit atten)
     (versionRefusal minor)
 
 -- the bits of ADC1_INIT_CODE_ATTEN0..3, ids 9 to 12, and 1600
-unfoldable pub initCodeOf : (ℕ → ℕ) → List ℕ → List ℕ → ℕ → ℕ → ℕ → Code
-initCodeOf words dump map minor unit atten =
-    told (toldOf words C6 map (codeRefusal words dump map minor unit atten)) (Value (valueById C6 dump map (9 + atten) + 1600)) Refused
+unfoldable pub initCodeOf : List ℕ → List ℕ → List ℕ → ℕ → ℕ → ℕ → Code
+initCodeOf lengths dump map minor unit atten =
+    told (toldOf lengths C6 map (codeRefusal lengths dump map minor unit atten)) (Value (valueById C6 dump map (9 + atten) + 1600)) Refused
 
 -- 1500 in version 1; in version 2 it is 2900 at attenuation 2, which is 6 dB, and 2850 at the others
 unfoldable pub offsetOf : ℕ → ℕ → ℕ
@@ -40,8 +40,8 @@ unfoldable pub calCode : ℕ → ℕ → ℕ → ℤ
 calCode version atten bits = pos (offsetOf version atten) +ℤ signMagnitude 10 bits
 
 -- by the bits of ADC1_CAL_VOL_ATTEN0..3, ids 13 to 16; the code is never negative (`cal-code-whole`)
-unfoldable pub calCodeOf : (ℕ → ℕ) → List ℕ → List ℕ → ℕ → ℕ → ℕ → Code
-calCodeOf words dump map minor unit atten =
-    told (toldOf words C6 map (codeRefusal words dump map minor unit atten))
+unfoldable pub calCodeOf : List ℕ → List ℕ → List ℕ → ℕ → ℕ → ℕ → Code
+calCodeOf lengths dump map minor unit atten =
+    told (toldOf lengths C6 map (codeRefusal lengths dump map minor unit atten))
     (Value (natAbs (calCode (versionOf minor) atten (valueById C6 dump map (13 + atten)))))
     Refused

@@ -11,9 +11,9 @@ use Rattle.terms.specs.C6Version.{versionOf}
 
 -- 1, 7 and those of the map, then 12
 -- 12: "C6 version not 1 or 2"
-pub data CodeWhen (words : ℕ → ℕ) (dump map : List ℕ) (minor unit atten : ℕ) : ℕ → Type 0 where
-  before : {n : ℕ} → DecodingWhen words C6 dump map unit atten n → (n ≡ 0 → ⊥) → CodeWhen words dump map minor unit atten n
-  bad-version : DecodingWhen words C6 dump map unit atten 0 → (versionOf minor ≡ 1 → ⊥) → (versionOf minor ≡ 2 → ⊥)
-      → CodeWhen words dump map minor unit atten 12
-  good-version : DecodingWhen words C6 dump map unit atten 0 → (versionOf minor ≡ 1) ⊎ (versionOf minor ≡ 2)
-      → CodeWhen words dump map minor unit atten 0
+pub data CodeWhen (lengths dump map : List ℕ) (minor unit atten : ℕ) : ℕ → Type 0 where
+  before : {n : ℕ} → DecodingWhen lengths C6 dump map unit atten n → (n ≡ 0 → ⊥) → CodeWhen lengths dump map minor unit atten n
+  bad-version : DecodingWhen lengths C6 dump map unit atten 0 → (versionOf minor ≡ 1 → ⊥) → (versionOf minor ≡ 2 → ⊥)
+      → CodeWhen lengths dump map minor unit atten 12
+  good-version : DecodingWhen lengths C6 dump map unit atten 0 → (versionOf minor ≡ 1) ⊎ (versionOf minor ≡ 2)
+      → CodeWhen lengths dump map minor unit atten 0

@@ -8,7 +8,6 @@ use terms::reading::Reading;
 use terms::refusal;
 ghost use mathlib.Core.Path.{_≡_};
 ghost use Prim.Native.Nat.{_≤_, _<_, min};
-ghost use Rattle.dumps.specs.Dump.{eight};
 ghost use Rattle.esp32c6.specs.Channel.{compensOf, chanCompensOf};
 
 const LAST_CHANNEL: u8 = 6;
@@ -33,22 +32,24 @@ fn chan_compens(chan_diff: u32, atten: u8) -> i32
     get_signed_val(chan_diff, CHAN_DIFF_SIGN_BIT) * ((4 - atten) as i32)
 }
 
-// A channel's compensation at an attenuation: from -28 to 28. Any channel is answered. Refusals 1, 7, the map's.
+// A channel's compensation at an attenuation: from -28 to 28. Any channel is answered. Refusals 1, 20, 7, the map's.
 pub fn rtc_calib_get_chan_compens(
     dump: &[u32],
+    lengths: &[u8],
     map: &[u8],
     unit: u8,
     channel: u8,
     atten: u8,
 ) -> Reading
-    ensures { λ r. ⌜ r ≡ chanCompensOf eight (now (dump .entry)) (now (map .entry)) unit channel atten ⌝ }
+    ensures { λ r. ⌜ r ≡ chanCompensOf (now (lengths .entry)) (now (dump .entry)) (now (map .entry)) unit channel atten ⌝ }
 {
-    let why = decoding_refusal(MapChip::C6, dump, map, unit, atten);
+    let why = decoding_refusal(MapChip::C6, dump, lengths, map, unit, atten);
     if why.number != refusal::NONE {
         return Reading::Refused(why);
     }
     let chan_diff = record_value(
         dump,
+        lengths,
         map,
         ADC1_INIT_CODE_ATTEN0_CH0 + (field_channel(channel) as usize),
     );

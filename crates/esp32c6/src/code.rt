@@ -14,7 +14,6 @@ ghost use Prim.Native.Nat.{_≤_, _<_};
 ghost use lib.IntN.{pos, _+ℤ_};
 ghost use Rattle.terms.specs.Sign.{signMagnitude};
 ghost use Rattle.terms.specs.declared.chip.MapChip.the-variants.{C6};
-ghost use Rattle.dumps.specs.Dump.{eight};
 ghost use Rattle.maps.specs.Told.{toldOf};
 ghost use Rattle.esp32c6.specs.Code.{versionRefusal, codeRefusal, initCodeOf, offsetOf, calCodeOf};
 
@@ -36,26 +35,33 @@ fn version_refusal(minor: u8) -> u8
     refusal::VERSION
 }
 
-// The first thing wrong with a call for a code: 1, 7, the map's, 12.
-fn code_refusal(dump: &[u32], map: &[u8], minor: u8, unit: u8, atten: u8) -> Refusal
-    ensures { λ r. ⌜ r ≡ toldOf eight C6 (now (map .entry)) (codeRefusal eight (now (dump .entry)) (now (map .entry)) minor unit atten) ⌝ }
+// The first thing wrong with a call for a code: 1, 20, 7, the map's, 12.
+fn code_refusal(dump: &[u32], lengths: &[u8], map: &[u8], minor: u8, unit: u8, atten: u8) -> Refusal
+    ensures { λ r. ⌜ r ≡ toldOf (now (lengths .entry)) C6 (now (map .entry)) (codeRefusal (now (lengths .entry)) (now (dump .entry)) (now (map .entry)) minor unit atten) ⌝ }
 {
-    let why = decoding_refusal(MapChip::C6, dump, map, unit, atten);
+    let why = decoding_refusal(MapChip::C6, dump, lengths, map, unit, atten);
     if why.number != refusal::NONE {
         return why;
     }
     refusal::plain(version_refusal(minor))
 }
 
-// The ADC's initial code for an attenuation: from 1600 to 34367. Refusals 1, 7, the map's, 12.
-pub fn rtc_calib_init_code(dump: &[u32], map: &[u8], minor: u8, unit: u8, atten: u8) -> Code
-    ensures { λ r. ⌜ r ≡ initCodeOf eight (now (dump .entry)) (now (map .entry)) minor unit atten ⌝ }
+// The ADC's initial code for an attenuation: from 1600 to 34367. Refusals 1, 20, 7, the map's, 12.
+pub fn rtc_calib_init_code(
+    dump: &[u32],
+    lengths: &[u8],
+    map: &[u8],
+    minor: u8,
+    unit: u8,
+    atten: u8,
+) -> Code
+    ensures { λ r. ⌜ r ≡ initCodeOf (now (lengths .entry)) (now (dump .entry)) (now (map .entry)) minor unit atten ⌝ }
 {
-    let why = code_refusal(dump, map, minor, unit, atten);
+    let why = code_refusal(dump, lengths, map, minor, unit, atten);
     if why.number != refusal::NONE {
         return Code::Refused(why);
     }
-    let init_code = record_value(dump, map, ADC1_INIT_CODE_ATTEN0 + (atten as usize));
+    let init_code = record_value(dump, lengths, map, ADC1_INIT_CODE_ATTEN0 + (atten as usize));
     Code::Value(init_code as u16 + INIT_CODE_BASE)
 }
 
@@ -81,14 +87,21 @@ fn cal_code(offset: u16, cal_vol: u32) -> u16
 }
 
 // The ADC's code at the reference voltage of an attenuation: from 989 to 2011 in version 1, from 2339 to 3411 in version 2. Refusals
-// 1, 7, the map's, 12.
-pub fn rtc_calib_cal_code(dump: &[u32], map: &[u8], minor: u8, unit: u8, atten: u8) -> Code
-    ensures { λ r. ⌜ r ≡ calCodeOf eight (now (dump .entry)) (now (map .entry)) minor unit atten ⌝ }
+// 1, 20, 7, the map's, 12.
+pub fn rtc_calib_cal_code(
+    dump: &[u32],
+    lengths: &[u8],
+    map: &[u8],
+    minor: u8,
+    unit: u8,
+    atten: u8,
+) -> Code
+    ensures { λ r. ⌜ r ≡ calCodeOf (now (lengths .entry)) (now (dump .entry)) (now (map .entry)) minor unit atten ⌝ }
 {
-    let why = code_refusal(dump, map, minor, unit, atten);
+    let why = code_refusal(dump, lengths, map, minor, unit, atten);
     if why.number != refusal::NONE {
         return Code::Refused(why);
     }
-    let cal_vol = record_value(dump, map, ADC1_CAL_VOL_ATTEN0 + (atten as usize));
+    let cal_vol = record_value(dump, lengths, map, ADC1_CAL_VOL_ATTEN0 + (atten as usize));
     Code::Value(cal_code(chk_offset(rtc_calib_version(minor), atten), cal_vol))
 }

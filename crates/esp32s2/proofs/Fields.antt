@@ -9,11 +9,11 @@ use Rattle.inputs.specs.Input.{fieldsRefusal}
 use Rattle.maps.specs.Value.{recordValue, valueById}
 use Rattle.inputs.proofs.Values.{value-fits, value-is}
 
-module _ (words : ℕ → ℕ) (dump map : List ℕ) (good : fieldsRefusal words S2 dump map ≡ 0) where
+module _ (lengths dump map : List ℕ) (good : fieldsRefusal lengths S2 dump map ≡ 0) where
   pub field-fits : (k : ℕ) → k < 2 → valueById S2 dump map (7 + k) < 2 ^ 8
   field-fits k h =
-      value-fits words S2 dump map good (7 + k) k refl h 8 (rule (λ k. at-most (countsOf (7 + k) .max) 8) 2 tt k h)
+      value-fits lengths S2 dump map good (7 + k) k refl h 8 (rule (λ k. at-most (countsOf (7 + k) .max) 8) 2 tt k h)
 
   -- record k's value is that of id 7 + k
-  pub field-is : (k : ℕ) → k < 2 → {v : ℕ} → v ≡ recordValue words dump map k → v ≡ valueById S2 dump map (7 + k)
-  field-is k h = value-is words S2 dump map good (7 + k) k refl h
+  pub field-is : (k : ℕ) → k < 2 → {v : ℕ} → v ≡ recordValue lengths dump map k → v ≡ valueById S2 dump map (7 + k)
+  field-is k h = value-is lengths S2 dump map good (7 + k) k refl h

@@ -25,15 +25,15 @@ encryption-paper : Paper encryption.refusalOf encryption.valueOf false Encryptio
 encryption-paper =
     record { good-refusal = λ v. refl; good-value = λ v. refl; refused-refusal = λ r. refl; refused-value = λ r. refl }
 
-module _ (words : ℕ → ℕ) (dump map : List ℕ) where
+module _ (lengths dump map : List ℕ) where
   -- `rtc_calib_version`
   pub version-says : Says version.refusalOf version.valueOf 0
-      (calibVersionOf words dump map) (toldOf words S2 map (fieldsRefusal words S2 dump map)) (versionOf dump map)
+      (calibVersionOf lengths dump map) (toldOf lengths S2 map (fieldsRefusal lengths S2 dump map)) (versionOf dump map)
   unfolding calibVersionOf
-  version-says = map-says words map S2 version-paper _ _
+  version-says = map-says lengths map S2 version-paper _ _
 
   -- `flash_encryption`
   pub encryption-says : Says encryption.refusalOf encryption.valueOf false
-      (flashEncryptionOf words dump map) (toldOf words S2 map (fieldsRefusal words S2 dump map)) (oddOnes (valueById S2 dump map 8))
+      (flashEncryptionOf lengths dump map) (toldOf lengths S2 map (fieldsRefusal lengths S2 dump map)) (oddOnes (valueById S2 dump map 8))
   unfolding flashEncryptionOf
-  encryption-says = map-says words map S2 encryption-paper _ _
+  encryption-says = map-says lengths map S2 encryption-paper _ _

@@ -10,11 +10,11 @@ use Rattle.esp32s2.specs.Encryption as encryption
 use Rattle.esp32s2.specs.Version as version
 use Rattle.esp32s2.proofs.Says.{version-says, encryption-says}
 
-module _ (words : ℕ → ℕ) (dump map : List ℕ) where
+module _ (lengths dump map : List ℕ) where
   -- `rtc_calib_version`
-  pub version-told : Exactly (version.refusalOf (version.calibVersionOf words dump map)) (ToldWhen words S2 map (FieldsWhen words S2 dump map))
-  version-told = rw (version-says words dump map .refusal-is) (fields-told words S2 dump map)
+  pub version-told : Exactly (version.refusalOf (version.calibVersionOf lengths dump map)) (ToldWhen lengths S2 map (FieldsWhen lengths S2 dump map))
+  version-told = rw (version-says lengths dump map .refusal-is) (fields-told lengths S2 dump map)
 
   -- `flash_encryption`
-  pub encryption-told : Exactly (encryption.refusalOf (encryption.flashEncryptionOf words dump map)) (ToldWhen words S2 map (FieldsWhen words S2 dump map))
-  encryption-told = rw (encryption-says words dump map .refusal-is) (fields-told words S2 dump map)
+  pub encryption-told : Exactly (encryption.refusalOf (encryption.flashEncryptionOf lengths dump map)) (ToldWhen lengths S2 map (FieldsWhen lengths S2 dump map))
+  encryption-told = rw (encryption-says lengths dump map .refusal-is) (fields-told lengths S2 dump map)

@@ -32,6 +32,6 @@ valueOf (Value on) = on
 valueOf (Refused r) = false
 
 -- by the bits of SPI_BOOT_CRYPT_CNT, id 8
-unfoldable pub flashEncryptionOf : (ℕ → ℕ) → List ℕ → List ℕ → FlashEncryption
-flashEncryptionOf words dump map =
-    told (toldOf words S2 map (fieldsRefusal words S2 dump map)) (Value (oddOnes (valueById S2 dump map 8))) Refused
+unfoldable pub flashEncryptionOf : List ℕ → List ℕ → List ℕ → FlashEncryption
+flashEncryptionOf lengths dump map =
+    told (toldOf lengths S2 map (fieldsRefusal lengths S2 dump map)) (Value (oddOnes (valueById S2 dump map 8))) Refused

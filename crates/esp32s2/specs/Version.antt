@@ -24,6 +24,6 @@ valueOf (Refused r) = 0
 abbrev pub versionOf : List ℕ → List ℕ → ℕ
 versionOf dump map = valueById S2 dump map 7
 
-unfoldable pub calibVersionOf : (ℕ → ℕ) → List ℕ → List ℕ → Version
-calibVersionOf words dump map =
-    told (toldOf words S2 map (fieldsRefusal words S2 dump map)) (Value (versionOf dump map)) Refused
+unfoldable pub calibVersionOf : List ℕ → List ℕ → List ℕ → Version
+calibVersionOf lengths dump map =
+    told (toldOf lengths S2 map (fieldsRefusal lengths S2 dump map)) (Value (versionOf dump map)) Refused

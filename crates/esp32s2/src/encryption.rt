@@ -5,7 +5,6 @@ use terms::chip::MapChip;
 use terms::refusal;
 use terms::refusal::Refusal;
 ghost use mathlib.Core.Path.{_≡_};
-ghost use Rattle.dumps.specs.Dump.{eight};
 ghost use Rattle.esp32s2.specs.Encryption.{oddOnes, flashEncryptionOf};
 
 // Where the map has the field with id 8.
@@ -24,13 +23,13 @@ fn odd_ones(count: u8) -> bool
     u8::count_ones(count) % 2 == 1
 }
 
-// Whether flash encryption is on. Refusals 1, the map's.
-pub fn flash_encryption(dump: &[u32], map: &[u8]) -> FlashEncryption
-    ensures { λ r. ⌜ r ≡ flashEncryptionOf eight (now (dump .entry)) (now (map .entry)) ⌝ }
+// Whether flash encryption is on. Refusals 1, 20, the map's.
+pub fn flash_encryption(dump: &[u32], lengths: &[u8], map: &[u8]) -> FlashEncryption
+    ensures { λ r. ⌜ r ≡ flashEncryptionOf (now (lengths .entry)) (now (dump .entry)) (now (map .entry)) ⌝ }
 {
-    let why = fields_refusal(MapChip::S2, dump, map);
+    let why = fields_refusal(MapChip::S2, dump, lengths, map);
     if why.number != refusal::NONE {
         return FlashEncryption::Refused(why);
     }
-    FlashEncryption::Value(odd_ones(record_value(dump, map, SPI_BOOT_CRYPT_CNT) as u8))
+    FlashEncryption::Value(odd_ones(record_value(dump, lengths, map, SPI_BOOT_CRYPT_CNT) as u8))
 }

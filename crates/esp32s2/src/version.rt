@@ -5,7 +5,6 @@ use terms::chip::MapChip;
 use terms::refusal;
 use terms::refusal::Refusal;
 ghost use mathlib.Core.Path.{_≡_};
-ghost use Rattle.dumps.specs.Dump.{eight};
 ghost use Rattle.esp32s2.specs.Version.{calibVersionOf};
 
 // Where the map has the field with id 7.
@@ -17,13 +16,13 @@ pub enum Version {
     Refused(Refusal),
 }
 
-// The calibration's version. Refusals 1, the map's.
-pub fn rtc_calib_version(dump: &[u32], map: &[u8]) -> Version
-    ensures { λ r. ⌜ r ≡ calibVersionOf eight (now (dump .entry)) (now (map .entry)) ⌝ }
+// The calibration's version. Refusals 1, 20, the map's.
+pub fn rtc_calib_version(dump: &[u32], lengths: &[u8], map: &[u8]) -> Version
+    ensures { λ r. ⌜ r ≡ calibVersionOf (now (lengths .entry)) (now (dump .entry)) (now (map .entry)) ⌝ }
 {
-    let why = fields_refusal(MapChip::S2, dump, map);
+    let why = fields_refusal(MapChip::S2, dump, lengths, map);
     if why.number != refusal::NONE {
         return Version::Refused(why);
     }
-    Version::Value(record_value(dump, map, BLK_VERSION_MINOR) as u8)
+    Version::Value(record_value(dump, lengths, map, BLK_VERSION_MINOR) as u8)
 }

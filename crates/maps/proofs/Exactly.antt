@@ -15,16 +15,17 @@ use Rattle.terms.specs.When.{FirstWhen}
 use Rattle.terms.proofs.Exactly.{Some, exactly, case, by-first, first-exactly}
 use Rattle.terms.proofs.Order.{either, equal-or}
 use Rattle.terms.proofs.Refusals.{refuse-none}
+use Rattle.dumps.proofs.Lists.{lengths-exactly}
 use Rattle.efuse.specs.declared.field.EfuseField.{EfuseField}
 use Rattle.efuse.specs.When.{PlaceWhen}
 use Rattle.efuse.proofs.Exactly.{place-exactly}
-use Rattle.maps.specs.Map.{recordByte, fieldOf, strayOf, idsOf, countsOf, countRefusal, mapRecordRefusal, mapRecordRefusals, mapRefusal}
+use Rattle.maps.specs.Map.{recordByte, fieldOf, strayOf, idsOf, countsOf, countRefusal, mapRecordRefusal, mapRecordRefusals, mapRefusal, checkRefusal}
 use Rattle.maps.specs.When.{Zeros, Shaped, MapRecordWhen, bad-id, bad-byte, bad-place, bad-count, good-record}
-use Rattle.maps.specs.When.{MapWhen, bad-length, records}
-use Rattle.maps.proofs.Maps.{record-id, record-stray, record-place, record-count, map-length, map-records}
+use Rattle.maps.specs.When.{MapWhen, bad-length, records, CheckWhen, check-lengths, check-map}
+use Rattle.maps.proofs.Maps.{record-id, record-stray, record-place, record-count, map-length, map-records, check-list, check-map-only}
 
 -- a map
-module _ (words : ℕ → ℕ) (map : List ℕ) where
+module _ (lengths map : List ℕ) where
   module _ (id k : ℕ) where
     abbrev f : EfuseField
     f = fieldOf map k
@@ -43,22 +44,22 @@ module _ (words : ℕ → ℕ) (map : List ℕ) where
           seventh = eqb-true _ _ (not-false _ (z .0));
         }
 
-    count-is : Shaped map id k → PlaceWhen words f 0 → mapRecordRefusal words map id k ≡ countRefusal id (f .«bit_count»)
-    count-is s p = record-count words map id k (s .0) (no-stray (s .1)) refl (sym (place-exactly words f 0 .1 p)) refl
+    count-is : Shaped map id k → PlaceWhen lengths f 0 → mapRecordRefusal lengths map id k ≡ countRefusal id (f .«bit_count»)
+    count-is s p = record-count lengths map id k (s .0) (no-stray (s .1)) refl (sym (place-exactly lengths f 0 .1 p)) refl
 
-    record-gives : (n : ℕ) → MapRecordWhen words map id k n → mapRecordRefusal words map id k ≡ n
+    record-gives : (n : ℕ) → MapRecordWhen lengths map id k n → mapRecordRefusal lengths map id k ≡ n
     unfolding countRefusal
-    record-gives _ (bad-id h) = sym (record-id words map id k h)
-    record-gives _ (bad-byte i h) = sym (record-stray words map id k i (λ s. h (zeros s)))
+    record-gives _ (bad-id h) = sym (record-id lengths map id k h)
+    record-gives _ (bad-byte i h) = sym (record-stray lengths map id k i (λ s. h (zeros s)))
     record-gives n (bad-place s p some) =
-        sym (record-place words map id k (s .0) (no-stray (s .1)) refl (sym (place-exactly words f n .1 p)) some)
+        sym (record-place lengths map id k (s .0) (no-stray (s .1)) refl (sym (place-exactly lengths f n .1 p)) some)
     record-gives _ (bad-count s p (inl h)) = count-is s p ∙ simp (lt-ltb _ _ h)
     record-gives _ (bad-count s p (inr h)) =
         count-is s p
         ∙ either (countsOf id .min) (f .«bit_count») (λ l. simp (le-ltb _ _ l, lt-ltb _ _ h)) (λ l. simp (lt-ltb _ _ l))
     record-gives _ (good-record s p l u) = count-is s p ∙ simp (le-ltb _ _ l, le-ltb _ _ u)
 
-    by-count : Shaped map id k → PlaceWhen words f 0 → Some (MapRecordWhen words map id k)
+    by-count : Shaped map id k → PlaceWhen lengths f 0 → Some (MapRecordWhen lengths map id k)
     by-count s p =
         either (countsOf id .min) (f .«bit_count»)
         (λ l.
@@ -67,31 +68,46 @@ module _ (words : ℕ → ℕ) (map : List ℕ) where
         (λ u. (6, bad-count s p (inr u))))
         (λ l. (6, bad-count s p (inl l)))
 
-    record-some : Some (MapRecordWhen words map id k)
+    record-some : Some (MapRecordWhen lengths map id k)
     record-some =
         equal-or (recordByte map k 0) id
         (λ i.
         equal-or (strayOf map k) 0
         (λ z.
         let s : Shaped map id k = (i, zeros z) in
-        by-first (place-exactly words f) (λ p. by-count s p) (λ n p some. (n, bad-place s p some)))
+        by-first (place-exactly lengths f) (λ p. by-count s p) (λ n p some. (n, bad-place s p some)))
         (λ z. (18, bad-byte i (λ s. z (no-stray s)))))
         (λ i. (3, bad-id i))
 
-    pub record-exactly : Exactly (mapRecordRefusal words map id k) (MapRecordWhen words map id k)
+    pub record-exactly : Exactly (mapRecordRefusal lengths map id k) (MapRecordWhen lengths map id k)
     record-exactly = exactly record-gives record-some
 
   module _ (chip : MapChip) where
-    abbrev run : Exactly (firstOf (mapRecordRefusals words map (idsOf chip .first)) 0 (idsOf chip .len))
-        (FirstWhen (λ k. MapRecordWhen words map (idsOf chip .first + k) k) (idsOf chip .len))
+    abbrev run : Exactly (firstOf (mapRecordRefusals lengths map (idsOf chip .first)) 0 (idsOf chip .len))
+        (FirstWhen (λ k. MapRecordWhen lengths map (idsOf chip .first + k) k) (idsOf chip .len))
     run = first-exactly (λ k. record-exactly (idsOf chip .first + k) k) (idsOf chip .len)
 
-    map-gives : (n : ℕ) → MapWhen words chip map n → mapRefusal words chip map ≡ n
-    map-gives _ (bad-length h) = sym (map-length words map chip refl h)
-    map-gives n (records h w) = map-records words map chip refl h ∙ run n .1 w
+    map-gives : (n : ℕ) → MapWhen lengths chip map n → mapRefusal lengths chip map ≡ n
+    map-gives _ (bad-length h) = sym (map-length lengths map chip refl h)
+    map-gives n (records h w) = map-records lengths map chip refl h ∙ run n .1 w
 
-    map-some : Some (MapWhen words chip map)
+    map-some : Some (MapWhen lengths chip map)
     map-some = equal-or (length map) (8 * idsOf chip .len) (λ h. (_, records h (case run))) (λ h. (2, bad-length h))
 
-    pub map-exactly : Exactly (mapRefusal words chip map) (MapWhen words chip map)
+    pub map-exactly : Exactly (mapRefusal lengths chip map) (MapWhen lengths chip map)
     map-exactly = exactly map-gives map-some
+
+    -- `check_map`
+    check-gives : (n : ℕ) → CheckWhen lengths chip map n → checkRefusal lengths chip map ≡ n
+    check-gives n (check-lengths l some) = check-list lengths map chip (sym (lengths-exactly lengths n .1 l)) some
+    check-gives n (check-map l m) =
+        check-map-only lengths map chip (sym (lengths-exactly lengths 0 .1 l)) refl ∙ map-exactly n .1 m
+
+    check-some : Some (CheckWhen lengths chip map)
+    check-some =
+        by-first (lengths-exactly lengths)
+        (λ l. (_, check-map l (case map-exactly)))
+        (λ n l some. (n, check-lengths l some))
+
+    pub check-exactly : Exactly (checkRefusal lengths chip map) (CheckWhen lengths chip map)
+    check-exactly = exactly check-gives check-some

@@ -12,6 +12,7 @@ use Rattle.terms.specs.Refusal.{refuse, firstOf, plain, told}
 use Rattle.terms.specs.Says.{Says}
 use Rattle.terms.proofs.Refusals.{told-good, number-is, Passed, first-stop, first-none}
 use Rattle.terms.proofs.Says.{Paper, told-says}
+use Rattle.dumps.specs.When.{LengthsWhen, not-eleven, above-eight, good-lengths}
 use Rattle.efuse.specs.When.{bad-block, bad-bits, good-place}
 use Rattle.maps.specs.Map.{strayOf, mapRecordRefusals}
 use Rattle.maps.specs.Told.{ofRecord, toldFrom, toldOf}
@@ -30,9 +31,15 @@ pub refuse-plain : (t : Bool) (n : ℕ) → ofRecord n ≡ false → ofRecord (r
 refuse-plain true n e = e
 refuse-plain false n e = refl
 
-module _ (words : ℕ → ℕ) (map : List ℕ) where
+-- nor does the list of block lengths
+pub lengths-plain : {lengths : List ℕ} {n : ℕ} → LengthsWhen lengths n → ofRecord n ≡ false
+lengths-plain (not-eleven h) = refl
+lengths-plain (above-eight e block b h) = refl
+lengths-plain (good-lengths e f) = refl
+
+module _ (lengths map : List ℕ) where
   -- what a record gives is a number of a record
-  pub when-of-record : {id k n : ℕ} → MapRecordWhen words map id k n → (n ≡ 0 → ⊥) → ofRecord n ≡ true
+  pub when-of-record : {id k n : ℕ} → MapRecordWhen lengths map id k n → (n ≡ 0 → ⊥) → ofRecord n ≡ true
   when-of-record (bad-id h) some = refl
   when-of-record (bad-byte i h) some = refl
   when-of-record (bad-place s (bad-block b) h) some = refl
@@ -44,51 +51,51 @@ module _ (words : ℕ → ℕ) (map : List ℕ) where
   -- what a run of records tells, where it stops and where it doesn't
   module _ (first n k : ℕ) where
     abbrev numbers : ℕ → ℕ
-    numbers = mapRecordRefusals words map first
+    numbers = mapRecordRefusals lengths map first
 
     pub told-stop : k < n → Passed numbers n k → {m : ℕ} → m ≡ numbers k → (m ≡ 0 → ⊥)
         → {place : ℕ} → place ≡ cond (eqb m 18) (strayOf map k) 0
-        → record { number = m; «record» = k; place = place } ≡ toldFrom words map first n (firstOf numbers 0 n)
+        → record { number = m; «record» = k; place = place } ≡ toldFrom lengths map first n (firstOf numbers 0 n)
     told-stop h p {m} e some at =
         let stop = first-stop numbers n k h p (sym e) some in
-        let bad : ofRecord m ≡ true = when-of-record (record-exactly words map _ k m .0 (sym e)) some in
+        let bad : ofRecord m ≡ true = when-of-record (record-exactly lengths map _ k m .0 (sym e)) some in
         rw (stop .0, stop .1, bad, at)
 
     pub told-end : n ≤ k → Passed numbers n k → {why : Refusal} → why ≡ plain 0
-        → why ≡ toldFrom words map first n (firstOf numbers 0 n)
+        → why ≡ toldFrom lengths map first n (firstOf numbers 0 n)
     told-end h p e = e ∙ rw (first-none numbers n k h p)
 
   module _ (chip : MapChip) where
     -- it has its number, and one that is of no record tells 0 and 0
-    pub told-number : (n : ℕ) → toldOf words chip map n .number ≡ n
+    pub told-number : (n : ℕ) → toldOf lengths chip map n .number ≡ n
     unfolding toldOf
     told-number n = refl
 
-    pub told-plain : {n : ℕ} → ofRecord n ≡ false → toldOf words chip map n ≡ plain n
+    pub told-plain : {n : ℕ} → ofRecord n ≡ false → toldOf lengths chip map n ≡ plain n
     unfolding toldOf
     told-plain {n} e = rw (e, ne-eqb n 18 (λ h. true≢false (sym (ap ofRecord h) ∙ e)))
 
-    pub told-none : (n : ℕ) → toldOf words chip map n .number ≡ 0 → toldOf words chip map n ≡ plain 0
-    told-none n e = ap (toldOf words chip map) (sym (told-number n) ∙ e) ∙ told-plain refl
+    pub told-none : (n : ℕ) → toldOf lengths chip map n .number ≡ 0 → toldOf lengths chip map n ≡ plain 0
+    told-none n e = ap (toldOf lengths chip map) (sym (told-number n) ∙ e) ∙ told-plain refl
 
     -- as a `return` asks it: of a plain refusal, and of one that comes from a call on the same map
-    pub told-as : {why : Refusal} {n number : ℕ} → why ≡ plain n → ofRecord n ≡ false → number ≡ n → why ≡ toldOf words chip map number
-    told-as p e h = p ∙ sym (told-plain e) ∙ ap (toldOf words chip map) (sym h)
+    pub told-as : {why : Refusal} {n number : ℕ} → why ≡ plain n → ofRecord n ≡ false → number ≡ n → why ≡ toldOf lengths chip map number
+    told-as p e h = p ∙ sym (told-plain e) ∙ ap (toldOf lengths chip map) (sym h)
 
-    pub told-same : {why : Refusal} {n number : ℕ} → why ≡ toldOf words chip map n → number ≡ n → why ≡ toldOf words chip map number
-    told-same p h = p ∙ ap (toldOf words chip map) (sym h)
+    pub told-same : {why : Refusal} {n number : ℕ} → why ≡ toldOf lengths chip map n → number ≡ n → why ≡ toldOf lengths chip map number
+    told-same p h = p ∙ ap (toldOf lengths chip map) (sym h)
 
     -- what a caller knows of the number
-    pub told-is-number : {why : Refusal} {n : ℕ} → why ≡ toldOf words chip map n → why .number ≡ n
+    pub told-is-number : {why : Refusal} {n : ℕ} → why ≡ toldOf lengths chip map n → why .number ≡ n
     told-is-number e = number-is e ∙ told-number _
 
     -- which case an answer is where nothing is refused
     pub map-good : {A : Type 0} (good : A) (refused : Refusal → A) {number : ℕ} {answer : A} → number ≡ 0 → answer ≡ good
-        → answer ≡ told (toldOf words chip map number) good refused
+        → answer ≡ told (toldOf lengths chip map number) good refused
     map-good good refused e h = told-good _ good refused (told-number _ ∙ e) h
 
     -- and what it says
     pub map-says : {A B : Type 0} {refusal : A → Refusal} {value : A → B} {zeros : B} {good : B → A} {refused : Refusal → A}
         → Paper refusal value zeros good refused → (number : ℕ) (v : B)
-        → Says refusal value zeros (told (toldOf words chip map number) (good v) refused) (toldOf words chip map number) v
+        → Says refusal value zeros (told (toldOf lengths chip map number) (good v) refused) (toldOf lengths chip map number) v
     map-says paper number v = told-says paper _ (told-none number) v

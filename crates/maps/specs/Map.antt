@@ -1,5 +1,5 @@
 -- Document 01, "Dumps, maps and logs": field maps, with their refusals: 2, then records first to last, by document 02, #102, with 3, 18,
--- 4, 5, 6 within each. A map is the list of its bytes.
+-- 4, 5, 6 within each, and by #109 with 20 before them. A map is the list of its bytes.
 use mathlib.Core.Bool.{not, _||_}
 use mathlib.Core.List.{List, [], _∷_}
 use Prim.Native.Nat.{ℕ, _+_, _*_, _-_}
@@ -8,6 +8,7 @@ use lib.Dec.{ltb, eqb}
 use Rattle.terms.specs.declared.chip.MapChip.{MapChip}
 use Rattle.terms.specs.declared.chip.MapChip.the-variants.{Esp32, S2, C6}
 use Rattle.terms.specs.Refusal.{refuse, orElse, firstOf}
+use Rattle.dumps.specs.Lengths.{lengthsRefusal}
 use Rattle.efuse.specs.declared.field.EfuseField.{EfuseField}
 use Rattle.efuse.specs.Field.{placeRefusal}
 use Rattle.maps.specs.declared.map.Ids.{Ids}
@@ -67,19 +68,25 @@ countRefusal id count = refuse (ltb count (countsOf id .min) || ltb (countsOf id
 -- 3: "wrong id alone"
 -- 18: a "nonzero byte" among the last three
 -- then 4, 5 for its field's place, then 6
-unfoldable pub mapRecordRefusal : (ℕ → ℕ) → List ℕ → ℕ → ℕ → ℕ
-mapRecordRefusal words map id k =
+unfoldable pub mapRecordRefusal : List ℕ → List ℕ → ℕ → ℕ → ℕ
+mapRecordRefusal lengths map id k =
     refuse (not (eqb (recordByte map k 0) id)) 3
     (refuse (not (eqb (strayOf map k) 0)) 18
-    (orElse (placeRefusal words (fieldOf map k))
+    (orElse (placeRefusal lengths (fieldOf map k))
     (countRefusal id (fieldOf map k .«bit_count»))))
 
 -- of record k, where ids rise from a first one on
-abbrev pub mapRecordRefusals : (ℕ → ℕ) → List ℕ → ℕ → ℕ → ℕ
-mapRecordRefusals words map first k = mapRecordRefusal words map (first + k) k
+abbrev pub mapRecordRefusals : List ℕ → List ℕ → ℕ → ℕ → ℕ
+mapRecordRefusals lengths map first k = mapRecordRefusal lengths map (first + k) k
 
 -- 2: the map's length isn't its chip's
-unfoldable pub mapRefusal : (ℕ → ℕ) → MapChip → List ℕ → ℕ
-mapRefusal words chip map =
+unfoldable pub mapRefusal : List ℕ → MapChip → List ℕ → ℕ
+mapRefusal lengths chip map =
     refuse (not (eqb (length map) (8 * idsOf chip .len))) 2
-    (firstOf (mapRecordRefusals words map (idsOf chip .first)) 0 (idsOf chip .len))
+    (firstOf (mapRecordRefusals lengths map (idsOf chip .first)) 0 (idsOf chip .len))
+
+-- `check_map` checks the list too, which no dump comes with here
+-- 20 for the list
+-- then those of the map
+unfoldable pub checkRefusal : List ℕ → MapChip → List ℕ → ℕ
+checkRefusal lengths chip map = orElse (lengthsRefusal lengths) (mapRefusal lengths chip map)

@@ -19,17 +19,17 @@ pub data FirstByte (map : List ℕ) (k : ℕ) : ℕ → Type 0 where
   seventh : recordByte map k 5 ≡ 0 → recordByte map k 6 ≡ 0 → (recordByte map k 7 ≡ 0 → ⊥) → FirstByte map k 7
 
 -- record k of the map has the fault n, and every earlier one is good
-abbrev pub FirstBad : (ℕ → ℕ) → MapChip → List ℕ → ℕ → ℕ → Type 0
-FirstBad words chip map n k = FirstFault (λ j. MapRecordWhen words map (idsOf chip .first + j) j) (idsOf chip .len) n k
+abbrev pub FirstBad : List ℕ → MapChip → List ℕ → ℕ → ℕ → Type 0
+FirstBad lengths chip map n k = FirstFault (λ j. MapRecordWhen lengths map (idsOf chip .first + j) j) (idsOf chip .len) n k
 
 -- a refusal tells the first bad record, and at 18 the first nonzero byte of it; or it is of no record, and tells 0 and 0
-pub data Tells (words : ℕ → ℕ) (chip : MapChip) (map : List ℕ) : Refusal → Type 0 where
-  byte : {k p : ℕ} → FirstBad words chip map 18 k → FirstByte map k p
-      → Tells words chip map (record { number = 18; «record» = k; place = p })
-  a-record : {n k : ℕ} → FirstBad words chip map n k → (n ≡ 18 → ⊥)
-      → Tells words chip map (record { number = n; «record» = k; place = 0 })
-  no-record : {n : ℕ} → ofRecord n ≡ false → Tells words chip map (plain n)
+pub data Tells (lengths : List ℕ) (chip : MapChip) (map : List ℕ) : Refusal → Type 0 where
+  byte : {k p : ℕ} → FirstBad lengths chip map 18 k → FirstByte map k p
+      → Tells lengths chip map (record { number = 18; «record» = k; place = p })
+  a-record : {n k : ℕ} → FirstBad lengths chip map n k → (n ≡ 18 → ⊥)
+      → Tells lengths chip map (record { number = n; «record» = k; place = 0 })
+  no-record : {n : ℕ} → ofRecord n ≡ false → Tells lengths chip map (plain n)
 
 -- a call on a map gives a refusal exactly when its number is given, and it tells that: the conditions of a refusal by those of its number
-abbrev pub ToldWhen : (ℕ → ℕ) → MapChip → List ℕ → (ℕ → Type 0) → Refusal → Type 0
-ToldWhen words chip map When r = When (r .number) × Tells words chip map r
+abbrev pub ToldWhen : List ℕ → MapChip → List ℕ → (ℕ → Type 0) → Refusal → Type 0
+ToldWhen lengths chip map When r = When (r .number) × Tells lengths chip map r

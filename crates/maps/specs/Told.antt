@@ -14,18 +14,18 @@ abbrev pub ofRecord : ℕ → Bool
 ofRecord number = leb 3 number && leb number 6 || eqb number 18
 
 -- of len records, whose ids rise from a first one on: the first that has a fault
-abbrev pub badRecord : (ℕ → ℕ) → List ℕ → ℕ → ℕ → ℕ
-badRecord words map first len = firstAt (mapRecordRefusals words map first) 0 len
+abbrev pub badRecord : List ℕ → List ℕ → ℕ → ℕ → ℕ
+badRecord lengths map first len = firstAt (mapRecordRefusals lengths map first) 0 len
 
 -- what they tell with a number
-abbrev pub toldFrom : (ℕ → ℕ) → List ℕ → ℕ → ℕ → ℕ → Refusal
-toldFrom words map first len number =
+abbrev pub toldFrom : List ℕ → List ℕ → ℕ → ℕ → ℕ → Refusal
+toldFrom lengths map first len number =
     record {
       number = number;
-      «record» = cond (ofRecord number) (badRecord words map first len) 0;
-      place = cond (eqb number 18) (strayOf map (badRecord words map first len)) 0;
+      «record» = cond (ofRecord number) (badRecord lengths map first len) 0;
+      place = cond (eqb number 18) (strayOf map (badRecord lengths map first len)) 0;
     }
 
 -- what a call on a chip's map tells with a number
-unfoldable pub toldOf : (ℕ → ℕ) → MapChip → List ℕ → ℕ → Refusal
-toldOf words chip map number = toldFrom words map (idsOf chip .first) (idsOf chip .len) number
+unfoldable pub toldOf : List ℕ → MapChip → List ℕ → ℕ → Refusal
+toldOf lengths chip map number = toldFrom lengths map (idsOf chip .first) (idsOf chip .len) number

@@ -1,4 +1,5 @@
 // Field maps: which field of the dump has which id, in records of 8 bytes.
+use dumps::lengths::lengths_refusal;
 use efuse::field::EfuseField;
 use efuse::field::place_refusal;
 use terms::bytes::u16_of;
@@ -12,8 +13,7 @@ ghost use Prim.Native.Nat.{_+_, _*_, _≤_, _<_};
 ghost use lib.Dec.{eqb};
 ghost use lib.ListN.{getD};
 ghost use Rattle.terms.specs.Refusal.{firstOf, outcomeTold};
-ghost use Rattle.dumps.specs.Dump.{eight};
-ghost use Rattle.maps.specs.Map.{idsOf, recordByte, fieldOf, strayOf, exactly, bitCounts, countRefusal, mapRecordRefusal, mapRecordRefusals, mapRefusal};
+ghost use Rattle.maps.specs.Map.{idsOf, recordByte, fieldOf, strayOf, exactly, bitCounts, countRefusal, mapRecordRefusal, mapRecordRefusals, mapRefusal, checkRefusal};
 ghost use Rattle.maps.specs.Told.{toldFrom, toldOf};
 
 const RECORD_BYTES: usize = 8;
@@ -123,9 +123,9 @@ fn stray(map: &[u8], k: usize) -> u8
 }
 
 // The first thing wrong with record k, which should have that id: 3, 18, 4, 5, 6.
-fn map_record_refusal(map: &[u8], id: usize, k: usize) -> u8
+fn map_record_refusal(lengths: &[u8], map: &[u8], id: usize, k: usize) -> u8
     requires { ⌜ (1 ≤ id) × (id ≤ 23) ⌝ }
-    ensures { λ r. ⌜ r ≡ mapRecordRefusal eight (now (map .entry)) id k ⌝ }
+    ensures { λ r. ⌜ r ≡ mapRecordRefusal (now (lengths .entry)) (now (map .entry)) id k ⌝ }
 {
     if record_byte(map, k, 0) as usize != id {
         return refusal::MAP_ID;
@@ -134,7 +134,7 @@ fn map_record_refusal(map: &[u8], id: usize, k: usize) -> u8
         return refusal::MAP_BYTE;
     }
     let field = field_at(map, k);
-    let place = place_refusal(field);
+    let place = place_refusal(lengths, field);
     if place != refusal::NONE {
         return place;
     }
@@ -167,13 +167,13 @@ fn told_place(map: &[u8], k: usize, number: u8) -> u8
 }
 
 // The first thing wrong with the first n records, whose ids should rise from the first one on, and which record it is in.
-fn first_refusal(map: &[u8], first: usize, n: usize) -> Refusal
+fn first_refusal(lengths: &[u8], map: &[u8], first: usize, n: usize) -> Refusal
     requires { ⌜ (1 ≤ first) × (first + n ≤ 24) ⌝ }
-    ensures { λ r. ⌜ r ≡ toldFrom eight (now (map .entry)) first n (firstOf (mapRecordRefusals eight (now (map .entry)) first) 0 n) ⌝ }
+    ensures { λ r. ⌜ r ≡ toldFrom (now (lengths .entry)) (now (map .entry)) first n (firstOf (mapRecordRefusals (now (lengths .entry)) (now (map .entry)) first) 0 n) ⌝ }
 {
     let mut k = 0;
     while k < n {
-        let number = map_record_refusal(map, first + k, k);
+        let number = map_record_refusal(lengths, map, first + k, k);
         if number != refusal::NONE {
             return Refusal {
                 number,
@@ -186,9 +186,9 @@ fn first_refusal(map: &[u8], first: usize, n: usize) -> Refusal
     refusal::plain(refusal::NONE)
 }
 
-// The first thing wrong with a map: 2, then its records first to last.
-pub fn map_refusal(chip: MapChip, map: &[u8]) -> Refusal
-    ensures { λ r. ⌜ r ≡ toldOf eight chip (now (map .entry)) (mapRefusal eight chip (now (map .entry))) ⌝ }
+// The first thing wrong with a map, by a list of block lengths that was checked: 2, then its records first to last.
+pub fn map_refusal(chip: MapChip, lengths: &[u8], map: &[u8]) -> Refusal
+    ensures { λ r. ⌜ r ≡ toldOf (now (lengths .entry)) chip (now (map .entry)) (mapRefusal (now (lengths .entry)) chip (now (map .entry))) ⌝ }
 {
     let ids = ids_of(chip);
     let first = ids.first;
@@ -196,13 +196,17 @@ pub fn map_refusal(chip: MapChip, map: &[u8]) -> Refusal
     if map.len() != RECORD_BYTES * n {
         return refusal::plain(refusal::MAP);
     }
-    first_refusal(map, first, n)
+    first_refusal(lengths, map, first, n)
 }
 
-// Good where the map is its chip's: then each of its fields is read without refusal. Else the first thing wrong with it: 2, then
-// records first to last with 3, 18, 4, 5, 6 within each, and which record it is in.
-pub fn check_map(chip: MapChip, map: &[u8]) -> Outcome
-    ensures { λ r. ⌜ r ≡ outcomeTold (toldOf eight chip (now (map .entry)) (mapRefusal eight chip (now (map .entry)))) ⌝ }
+// Good where the list is one and the map its chip's: then each of its fields is read without refusal. Else the first thing wrong: 20, 2,
+// then records first to last with 3, 18, 4, 5, 6 within each, and which record it is in.
+pub fn check_map(chip: MapChip, lengths: &[u8], map: &[u8]) -> Outcome
+    ensures { λ r. ⌜ r ≡ outcomeTold (toldOf (now (lengths .entry)) chip (now (map .entry)) (checkRefusal (now (lengths .entry)) chip (now (map .entry)))) ⌝ }
 {
-    refusal::outcome_of(map_refusal(chip, map))
+    let number = lengths_refusal(lengths);
+    if number != refusal::NONE {
+        return Outcome::Refused(refusal::plain(number));
+    }
+    refusal::outcome_of(map_refusal(chip, lengths, map))
 }

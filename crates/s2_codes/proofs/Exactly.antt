@@ -1,4 +1,4 @@
--- Each number of the S2's codes is given exactly when. Assumes nothing.
+-- Each number that the S2's codes give before the table is read is given exactly when. Assumes nothing.
 use mathlib.Core.Path.{_≡_, refl, sym}
 use mathlib.Core.List.{List}
 use Prim.Native.Nat.{ℕ}
@@ -10,21 +10,21 @@ use Rattle.inputs.specs.Input.{decodingRefusal}
 use Rattle.inputs.specs.When.{DecodingWhen}
 use Rattle.inputs.proofs.Exactly.{decoding-exactly}
 use Rattle.esp32s2.specs.Version.{versionOf}
-use Rattle.s2_codes.specs.Code.{codeRefusal}
-use Rattle.s2_codes.specs.When.{CodeWhen, before, bad-version, good-version}
+use Rattle.s2_codes.specs.Code.{versionRefusal}
+use Rattle.s2_codes.specs.When.{VersionWhen, before, bad-version, good-version}
 use Rattle.s2_codes.proofs.Codes.{code-decoding, code-twelve, code-given}
 
-module _ (words : ℕ → ℕ) (dump map : List ℕ) (unit atten : ℕ) where
-  abbrev input : Exactly (decodingRefusal words S2 dump map unit atten) (DecodingWhen words S2 dump map unit atten)
-  input = decoding-exactly words S2 dump map unit atten
+module _ (lengths dump map : List ℕ) (unit atten : ℕ) where
+  abbrev input : Exactly (decodingRefusal lengths S2 dump map unit atten) (DecodingWhen lengths S2 dump map unit atten)
+  input = decoding-exactly lengths S2 dump map unit atten
 
-  code-gives : (n : ℕ) → CodeWhen words dump map unit atten n → codeRefusal words dump map unit atten ≡ n
+  code-gives : (n : ℕ) → VersionWhen lengths dump map unit atten n → versionRefusal lengths dump map unit atten ≡ n
   code-gives n (before k some) = sym (code-decoding _ _ _ _ _ (sym (input n .1 k)) some)
   code-gives _ (bad-version k v) = sym (code-twelve _ _ _ _ _ refl (input 0 .1 k) refl v)
   code-gives _ (good-version k v) = sym (code-given _ _ _ _ _ refl (input 0 .1 k) refl v)
 
-  version-some : DecodingWhen words S2 dump map unit atten 0 → Some (CodeWhen words dump map unit atten)
+  version-some : DecodingWhen lengths S2 dump map unit atten 0 → Some (VersionWhen lengths dump map unit atten)
   version-some k = equal-or (versionOf dump map) 2 (λ v. (0, good-version k v)) (λ v. (12, bad-version k v))
 
-  pub code-exactly : Exactly (codeRefusal words dump map unit atten) (CodeWhen words dump map unit atten)
-  code-exactly = exactly code-gives (by-first input version-some (λ n k some. (n, before k some)))
+  pub version-exactly : Exactly (versionRefusal lengths dump map unit atten) (VersionWhen lengths dump map unit atten)
+  version-exactly = exactly code-gives (by-first input version-some (λ n k some. (n, before k some)))

@@ -7,7 +7,6 @@ use native.Mathlib.Omega.{arith}
 use lib.IntN.{pos}
 use Rattle.terms.specs.Code.{valueOf}
 use Rattle.terms.proofs.Check.{rule}
-use Rattle.maps.specs.Told.{toldOf}
 use Rattle.s2_readings.specs.declared.tag.RtcCalibParam.{RtcCalibParam}
 use Rattle.s2_readings.specs.declared.tag.RtcCalibParam.the-variants.{Vhigh, Vinit}
 use Rattle.s2_readings.specs.Table.{calibMap, entryAt, along}
@@ -16,8 +15,8 @@ use Rattle.s2_readings.specs.Tag.{byVersion, firstTag, tagOf}
 use Rattle.s2_readings.proofs.Rule.{Spread, spread}
 use Rattle.s2_readings.proofs.Ranges.{Between, by-spread}
 use Rattle.s2_readings.proofs.Tags.{tag-is}
-use Rattle.s2_codes.specs.Code.{codeRefusal, codeOf, initCodeOf, calCodeOf}
-use Rattle.s2_codes.proofs.Codes.{code-good}
+use Rattle.s2_codes.specs.Code.{codeTold, codeOf, initCodeOf, calCodeOf}
+use Rattle.s2_codes.proofs.Codes.{code-good, code-accepted}
 
 -- the codes: both parameters pair with version 2, and each has eight tags, which one computed test goes through
 pub init-pairs : firstTag 2 Vinit ≡ 25
@@ -36,32 +35,30 @@ high-spread : (k : ℕ) → k < 8 → Spread 4321 7986 (17 + k)
 unfolding calibMap entryAt along
 high-spread = rule (λ k. spread 4321 7986 (17 + k)) 8 tt
 
-module _ (words : ℕ → ℕ) (dump map : List ℕ) (unit atten : ℕ) (good : codeRefusal words dump map unit atten ≡ 0) where
-  inside : (unit ≤ 1) × (atten ≤ 3)
-  inside = code-good words dump map unit atten good .1
-
-  -- a parameter of version 2 whose eight tags are from a first one on
+module _ (lengths dump map : List ℕ) (unit atten : ℕ) where
+  -- a parameter of version 2 whose eight tags are from a first one on, and whose code isn't refused
   module _ (param : RtcCalibParam) (first : ℕ) (pairs : firstTag 2 param ≡ first) (some : 0 < first) {low high : ℕ}
-      (eight-tags : (k : ℕ) → k < 8 → Spread low high (first + k)) where
+      (eight-tags : (k : ℕ) → k < 8 → Spread low high (first + k)) (good : codeTold lengths dump map unit atten param .number ≡ 0) where
+    inside : (unit ≤ 1) × (atten ≤ 3)
+    inside = code-good lengths dump map unit atten (code-accepted lengths dump map unit atten param good .0) .1
+
     code-between : Between low high (readingOf dump false (tagOf 2 unit atten param))
     code-between =
         by-spread dump false 2 unit atten param (inside .0) (inside .1) (λ e. omega (arith, pairs))
         (rw (tag-is 2 unit atten param pairs some) (eight-tags (unit * 4 + atten) (omega (arith, inside))))
 
     -- the code is the reading itself, and in its range
-    code-answer : let v = valueOf (codeOf words dump map unit atten param) in
+    code-answer : let v = valueOf (codeOf lengths dump map unit atten param) in
         (pos v ≡ readingOf dump false (tagOf 2 unit atten param)) × ((low ≤ v) × (v ≤ high))
-    unfolding codeOf toldOf
+    unfolding codeOf
     code-answer = rw good (sym (code-between .whole), (code-between .least, code-between .most))
 
-  pub code-whole : (pos (valueOf (initCodeOf words dump map unit atten)) ≡ readingOf dump false (tagOf 2 unit atten Vinit))
-      × (pos (valueOf (calCodeOf words dump map unit atten)) ≡ readingOf dump false (tagOf 2 unit atten Vhigh))
-  code-whole =
-      (code-answer Vinit 25 init-pairs (omega arith) init-spread .0, code-answer Vhigh 17 high-pairs (omega arith) high-spread .0)
+  pub init-code-range : codeTold lengths dump map unit atten Vinit .number ≡ 0
+      → let v = valueOf (initCodeOf lengths dump map unit atten) in
+      (pos v ≡ readingOf dump false (tagOf 2 unit atten Vinit)) × ((1265 ≤ v) × (v ≤ 2127))
+  init-code-range = code-answer Vinit 25 init-pairs (omega arith) init-spread
 
-  pub code-range :
-      let init = valueOf (initCodeOf words dump map unit atten) in
-      let cal = valueOf (calCodeOf words dump map unit atten) in
-      ((1265 ≤ init) × (init ≤ 2127)) × ((4321 ≤ cal) × (cal ≤ 7986))
-  code-range =
-      (code-answer Vinit 25 init-pairs (omega arith) init-spread .1, code-answer Vhigh 17 high-pairs (omega arith) high-spread .1)
+  pub cal-code-range : codeTold lengths dump map unit atten Vhigh .number ≡ 0
+      → let v = valueOf (calCodeOf lengths dump map unit atten) in
+      (pos v ≡ readingOf dump false (tagOf 2 unit atten Vhigh)) × ((4321 ≤ v) × (v ≤ 7986))
+  cal-code-range = code-answer Vhigh 17 high-pairs (omega arith) high-spread

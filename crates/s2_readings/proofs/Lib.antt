@@ -1,6 +1,7 @@
 pub mod Chains
 pub mod Exactly
 pub mod Fits
+pub mod Links
 pub mod Ranges
 pub mod Readings
 pub mod Rule

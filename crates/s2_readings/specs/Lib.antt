@@ -1,3 +1,5 @@
+pub mod Chain
+pub mod Private
 pub mod Reading
 pub mod Rule
 pub mod Table

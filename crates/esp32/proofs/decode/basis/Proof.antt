@@ -8,7 +8,7 @@ record-value-requires : tie.Need-record-value-requires
 record-value-requires c κs = search needs
 
 returns : tie.Need-returns
-returns c = no-reserve _ _ _ (c .before .before .before .before .pre) _ (c .before .record-value .ensures) (c .if1 .taken)
+returns c = no-reserve _ _ _ (c .before .before .before .before .before .pre) _ (c .before .record-value .ensures) (c .if1 .taken)
 
 record-value-requires-2 : tie.Need-record-value-requires-2
 record-value-requires-2 c κs = search needs
@@ -16,7 +16,7 @@ record-value-requires-2 c κs = search needs
 returns-2 : tie.Need-returns-2
 returns-2 c =
     let p = c .before .before in
-    no-low1 _ _ _ (p .before .before .before .before .pre) _ (p .before .record-value .ensures) (p .if1 .left) (c .before .record-value2 .ensures) (c .if2 .taken)
+    no-low1 _ _ _ (p .before .before .before .before .before .pre) _ (p .before .record-value .ensures) (p .if1 .left) (c .before .record-value2 .ensures) (c .if2 .taken)
 
 record-value-requires-3 : tie.Need-record-value-requires-3
 record-value-requires-3 c κs = search needs
@@ -25,7 +25,7 @@ returns-3 : tie.Need-returns-3
 returns-3 c =
     let p = c .before .before in
     let q = p .before .before in
-    no-low2 _ _ _ (q .before .before .before .before .pre) _ (q .before .record-value .ensures) (q .if1 .left) (p .before .record-value2 .ensures) (p .if2 .left) (c .before .record-value3 .ensures)
+    no-low2 _ _ _ (q .before .before .before .before .before .pre) _ (q .before .record-value .ensures) (q .if1 .left) (p .before .record-value2 .ensures) (p .if2 .left) (c .before .record-value3 .ensures)
     (c .if3 .taken)
 
 record-value-requires-4 : tie.Need-record-value-requires-4
@@ -36,7 +36,7 @@ returns-4 c =
     let p = c .before .before in
     let q = p .before .before in
     let s = q .before .before in
-    no-high1 _ _ _ (s .before .before .before .before .pre) _ (s .before .record-value .ensures) (s .if1 .left) (q .before .record-value2 .ensures) (q .if2 .left) (p .before .record-value3 .ensures)
+    no-high1 _ _ _ (s .before .before .before .before .before .pre) _ (s .before .record-value .ensures) (s .if1 .left) (q .before .record-value2 .ensures) (q .if2 .left) (p .before .record-value3 .ensures)
     (p .if3 .left) (c .before .record-value4 .ensures) (c .if4 .taken)
 
 record-value-requires-5 : tie.Need-record-value-requires-5
@@ -48,7 +48,7 @@ returns-5 c =
     let q = p .before .before in
     let s = q .before .before in
     let t = s .before .before in
-    no-high2 _ _ _ (t .before .before .before .before .pre) _ (t .before .record-value .ensures) (t .if1 .left) (s .before .record-value2 .ensures) (s .if2 .left) (q .before .record-value3 .ensures)
+    no-high2 _ _ _ (t .before .before .before .before .before .pre) _ (t .before .record-value .ensures) (t .if1 .left) (s .before .record-value2 .ensures) (s .if2 .left) (q .before .record-value3 .ensures)
     (q .if3 .left) (p .before .record-value4 .ensures) (p .if4 .left) (c .before .record-value5 .ensures) (c .if5 .taken)
 
 by-unit-requires : tie.Need-by-unit-requires
@@ -64,7 +64,7 @@ returns-6 c =
     let q = p .before .before in
     let s = q .before .before in
     let t = s .before .before in
-    all-codes _ _ _ (t .before .before .before .before .pre) _ (t .before .record-value .ensures) (t .if1 .left) (s .before .record-value2 .ensures) (s .if2 .left) (q .before .record-value3 .ensures)
+    all-codes _ _ _ (t .before .before .before .before .before .pre) _ (t .before .record-value .ensures) (t .if1 .left) (s .before .record-value2 .ensures) (s .if2 .left) (q .before .record-value3 .ensures)
     (q .if3 .left) (p .before .record-value4 .ensures) (p .if4 .left) (o .before .record-value5 .ensures) (o .if5 .left) (c .before .by-unit .ensures)
     (c .by-unit2 .ensures)
 

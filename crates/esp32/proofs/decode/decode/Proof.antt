@@ -4,7 +4,6 @@ use mathlib.Core.Path.{_≡_, sym, _∙_}
 use denote.Ref.{now}
 use borrow.Author.Needs.{needs}
 use Rattle.terms.specs.declared.chip.MapChip.the-variants.{Esp32}
-use Rattle.dumps.specs.Dump.{eight}
 use Rattle.maps.proofs.Told.{told-is-number}
 use Rattle.inputs.specs.Input.{decodingRefusal}
 use Rattle.inputs.proofs.Inputs.{decoding-good}
@@ -16,14 +15,14 @@ use Rattle.esp32.proofs.decode.decode.Tie as tie
 
 -- past the first test nothing handed in is refused
 accepted : (c : tie.Else1)
-    → let a = c .before .before .before .before .before .args in
-    decodingRefusal eight Esp32 (now (a .dump)) (now (a .map)) (a .unit) (a .atten) ≡ 0
+    → let a = c .before .before .before .before .before .before .args in
+    decodingRefusal (now (a .lengths)) Esp32 (now (a .dump)) (now (a .map)) (a .unit) (a .atten) ≡ 0
 accepted c = sym (told-is-number _ _ _ (c .before .before .decoding-refusal .ensures)) ∙ c .if1 .left
 
 -- so that the basis's number is the decoding's
 number : (c : tie.After-basis-refusal)
-    → let a = c .before .before .before .before .before .before .before .args in
-    c .basis-refusal .result ≡ decodeRefusal eight (now (a .dump)) (now (a .map)) (a .unit) (a .atten)
+    → let a = c .before .before .before .before .before .before .before .before .args in
+    c .basis-refusal .result ≡ decodeRefusal (now (a .lengths)) (now (a .dump)) (now (a .map)) (a .unit) (a .atten)
 number c = decode-basis _ _ _ _ _ (accepted (c .before .before)) (c .before .basis .ensures) (c .basis-refusal .ensures)
 
 decoding-refusal-requires : tie.Need-decoding-refusal-requires

@@ -11,7 +11,6 @@ use borrow.Author.Needs.{needs, sfits-of}
 use Rattle.terms.specs.declared.chip.MapChip.the-variants.{C6}
 use Rattle.terms.proofs.Refusals.{told-refused}
 use Rattle.maps.proofs.Told.{told-is-number, map-good}
-use Rattle.dumps.specs.Dump.{eight}
 use Rattle.inputs.specs.Input.{fieldsRefusal}
 use Rattle.maps.specs.Value.{valueById}
 use Rattle.inputs.proofs.Inputs.{decoding-good}
@@ -39,8 +38,8 @@ add-record-value : tie.Need-add-record-value
 add-record-value c = search needs
 
 module _ (c : tie.Else1) where
-  good : let a = c .before .before .before .before .before .args in
-      (fieldsRefusal eight C6 (now (a .dump)) (now (a .map)) ≡ 0) × ((a .unit ≤ 1) × (a .atten ≤ 3))
+  good : let a = c .before .before .before .before .before .before .args in
+      (fieldsRefusal (now (a .lengths)) C6 (now (a .dump)) (now (a .map)) ≡ 0) × ((a .unit ≤ 1) × (a .atten ≤ 3))
   good = decoding-good _ _ _ _ _ _ (sym (told-is-number _ _ _ (c .before .before .decoding-refusal .ensures)) ∙ c .if1 .left)
 
 record-value-requires : tie.Need-record-value-requires
@@ -48,7 +47,7 @@ record-value-requires c κs = search needs
 
 -- the field that was read
 chan-diff : (c : tie.After-record-value)
-    → let a = c .before .before .before .before .before .before .before .args in
+    → let a = c .before .before .before .before .before .before .before .before .args in
     c .record-value .result ≡ valueById C6 (now (a .dump)) (now (a .map)) (17 + min (a .channel) 6)
 chan-diff c =
     let g = good (c .before .before) in

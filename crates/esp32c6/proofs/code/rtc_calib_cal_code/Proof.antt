@@ -9,7 +9,6 @@ use borrow.Author.Needs.{needs}
 use Rattle.terms.specs.declared.chip.MapChip.the-variants.{C6}
 use Rattle.terms.proofs.Refusals.{told-refused}
 use Rattle.maps.proofs.Told.{told-is-number, map-good}
-use Rattle.dumps.specs.Dump.{eight}
 use Rattle.inputs.specs.Input.{fieldsRefusal}
 use Rattle.maps.specs.Value.{valueById}
 use Rattle.inputs.proofs.Values.{value-is}
@@ -28,8 +27,8 @@ unfolding calCodeOf
 returns c = told-refused _ _ Refused (c .before .before .code-refusal .ensures) (c .if1 .taken)
 
 module _ (c : tie.Else1) where
-  good : let a = c .before .before .before .before .before .args in
-      (fieldsRefusal eight C6 (now (a .dump)) (now (a .map)) ≡ 0) × (a .atten ≤ 3)
+  good : let a = c .before .before .before .before .before .before .args in
+      (fieldsRefusal (now (a .lengths)) C6 (now (a .dump)) (now (a .map)) ≡ 0) × (a .atten ≤ 3)
   good = code-good _ _ _ _ _ _ (sym (told-is-number _ _ _ (c .before .before .code-refusal .ensures)) ∙ c .if1 .left)
 
 add-record-value : tie.Need-add-record-value
@@ -39,7 +38,7 @@ record-value-requires : tie.Need-record-value-requires
 record-value-requires c κs = search needs
 
 value : (c : tie.After-record-value)
-    → let a = c .before .before .before .before .before .before .args in
+    → let a = c .before .before .before .before .before .before .before .args in
     c .record-value .result ≡ valueById C6 (now (a .dump)) (now (a .map)) (13 + a .atten)
 value c = let g = good (c .before) in value-is _ _ _ _ (g .0) _ _ (omega arith) (omega arith) (c .record-value .ensures)
 

@@ -8,7 +8,6 @@ use borrow.Author.Needs.{needs}
 use Rattle.terms.specs.declared.chip.MapChip.the-variants.{C6}
 use Rattle.terms.proofs.Refusals.{told-refused}
 use Rattle.maps.proofs.Told.{told-is-number, map-good}
-use Rattle.dumps.specs.Dump.{eight}
 use Rattle.inputs.specs.Input.{fieldsRefusal}
 use Rattle.maps.specs.Value.{valueById}
 use Rattle.inputs.proofs.Values.{value-is}
@@ -27,8 +26,8 @@ unfolding initCodeOf
 returns c = told-refused _ _ Refused (c .before .before .code-refusal .ensures) (c .if1 .taken)
 
 module _ (c : tie.Else1) where
-  good : let a = c .before .before .before .before .before .args in
-      (fieldsRefusal eight C6 (now (a .dump)) (now (a .map)) ≡ 0) × (a .atten ≤ 3)
+  good : let a = c .before .before .before .before .before .before .args in
+      (fieldsRefusal (now (a .lengths)) C6 (now (a .dump)) (now (a .map)) ≡ 0) × (a .atten ≤ 3)
   good = code-good _ _ _ _ _ _ (sym (told-is-number _ _ _ (c .before .before .code-refusal .ensures)) ∙ c .if1 .left)
 
 add-record-value : tie.Need-add-record-value
@@ -38,18 +37,18 @@ record-value-requires : tie.Need-record-value-requires
 record-value-requires c κs = search needs
 
 module _ (c : tie.After-record-value) where
-  value : let a = c .before .before .before .before .before .before .args in
+  value : let a = c .before .before .before .before .before .before .before .args in
       c .record-value .result ≡ valueById C6 (now (a .dump)) (now (a .map)) (9 + a .atten)
   value = let g = good (c .before) in value-is _ _ _ _ (g .0) _ _ (omega arith) (omega arith) (c .record-value .ensures)
 
   few : c .record-value .result < 2 ^ 15
   few = let g = good (c .before) in rw value (init-fits _ _ _ (g .0) _ (g .1))
 
-cast-t11 : tie.Need-cast-t11
-cast-t11 c = omega (arith, few c)
+cast-t12 : tie.Need-cast-t12
+cast-t12 c = omega (arith, few c)
 
-add-t12 : tie.Need-add-t12
-add-t12 c = omega (arith, few c)
+add-t13 : tie.Need-add-t13
+add-t13 c = omega (arith, few c)
 
 returns-2 : tie.Need-returns-2
 unfolding initCodeOf
@@ -66,6 +65,6 @@ rtc-calib-init-code-spec =
     returns
     add-record-value
     record-value-requires
-    cast-t11
-    add-t12
+    cast-t12
+    add-t13
     returns-2)

@@ -6,7 +6,6 @@ use borrow.Author.Needs.{needs}
 use Rattle.terms.specs.declared.chip.MapChip.the-variants.{S2}
 use Rattle.terms.proofs.Refusals.{told-refused}
 use Rattle.maps.proofs.Told.{told-is-number, map-good}
-use Rattle.dumps.specs.Dump.{eight}
 use Rattle.inputs.specs.Input.{fieldsRefusal}
 use Rattle.maps.specs.Value.{valueById}
 use Rattle.esp32s2.specs.declared.encryption.FlashEncryption.the-variants.{Value, Refused}
@@ -26,10 +25,10 @@ record-value-requires : tie.Need-record-value-requires
 record-value-requires c κs = search needs
 
 module _ (c : tie.After-record-value) where
-  good : let a = c .before .before .before .before .before .before .args in fieldsRefusal eight S2 (now (a .dump)) (now (a .map)) ≡ 0
+  good : let a = c .before .before .before .before .before .before .before .args in fieldsRefusal (now (a .lengths)) S2 (now (a .dump)) (now (a .map)) ≡ 0
   good = sym (told-is-number _ _ _ (c .before .before .before .fields-refusal .ensures)) ∙ c .before .if1 .left
 
-  count : let a = c .before .before .before .before .before .before .args in
+  count : let a = c .before .before .before .before .before .before .before .args in
       c .record-value .result ≡ valueById S2 (now (a .dump)) (now (a .map)) 8
   count = field-is _ _ _ good 1 (lit≤ tt) (c .record-value .ensures)
 

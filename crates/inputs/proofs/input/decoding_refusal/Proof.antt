@@ -20,7 +20,7 @@ returns : tie.Need-returns
 unfolding decodingRefusal
 returns c =
     let n = sym (c .before .before .dump-refusal .ensures) in
-    told-as _ _ _ (c .plain .ensures) (dump-plain (dump-exactly _ _ .0 n)) (orElse-given _ _ n (c .before .if1 .taken))
+    told-as _ _ _ (c .plain .ensures) (dump-plain (dump-exactly _ _ _ .0 n)) (orElse-given _ _ n (c .before .if1 .taken))
 
 unit-refusal-requires : tie.Need-unit-refusal-requires
 unit-refusal-requires c κs = search needs

@@ -19,7 +19,7 @@ returns : tie.Need-returns
 unfolding fieldsRefusal
 returns c =
     let n = sym (c .before .before .dump-refusal .ensures) in
-    told-as _ _ _ (c .plain .ensures) (dump-plain (dump-exactly _ _ .0 n)) (orElse-given _ _ n (c .before .if1 .taken))
+    told-as _ _ _ (c .plain .ensures) (dump-plain (dump-exactly _ _ _ .0 n)) (orElse-given _ _ n (c .before .if1 .taken))
 
 map-refusal-requires : tie.Need-map-refusal-requires
 map-refusal-requires c κs = search needs

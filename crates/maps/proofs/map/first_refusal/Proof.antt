@@ -3,17 +3,16 @@ use mathlib.Core.Path.{sym, _∙_}
 use Prim.Native.Nat.{_-_}
 use borrow.Author.Needs.{needs}
 use Rattle.terms.proofs.Refusals.{Passed, first-start, first-pass}
-use Rattle.dumps.specs.Dump.{eight}
 use Rattle.maps.specs.Map.{mapRecordRefusals}
 use Rattle.maps.proofs.Told.{told-stop, told-end}
 use Rattle.maps.proofs.map.first_refusal.Statement.{statement}
 use Rattle.maps.proofs.map.first_refusal.Tie as tie
 
 abbrev Inv-loop : tie.InvT-loop
-Inv-loop map first n k₀ k = Passed (mapRecordRefusals eight map first) n k
+Inv-loop lengths map first n k₀ k = Passed (mapRecordRefusals lengths map first) n k
 
 abbrev μ-loop : tie.MeasureT-loop
-μ-loop map first n k₀ k = n - k
+μ-loop lengths map first n k₀ k = n - k
 
 loop-holds : tie.Need-loop-holds Inv-loop μ-loop
 loop-holds c = first-start _ _
@@ -24,8 +23,8 @@ add-map-record-refusal c = search needs
 map-record-refusal-requires : tie.Need-map-record-refusal-requires Inv-loop μ-loop
 map-record-refusal-requires c κs = search needs
 
-cast-t8 : tie.Need-cast-t8 Inv-loop μ-loop
-cast-t8 c = search needs
+cast-t9 : tie.Need-cast-t9 Inv-loop μ-loop
+cast-t9 c = search needs
 
 told-place-requires : tie.Need-told-place-requires Inv-loop μ-loop
 told-place-requires c κs = search needs
@@ -61,7 +60,7 @@ first-refusal-spec =
     loop-holds
     add-map-record-refusal
     map-record-refusal-requires
-    cast-t8
+    cast-t9
     told-place-requires
     returns
     add-k

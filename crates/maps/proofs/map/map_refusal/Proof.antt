@@ -10,7 +10,7 @@ use Rattle.maps.proofs.map.map_refusal.Statement.{statement}
 use Rattle.maps.proofs.map.map_refusal.Tie as tie
 
 in-table : (c : tie.After-ids-of) → (1 ≤ c .ids-of .result .first) × (c .ids-of .result .first + c .ids-of .result .len ≤ 24)
-in-table c = rw (c .ids-of .ensures) (ids-in-table (c .before .before .args .chip))
+in-table c = rw (c .ids-of .ensures) (ids-in-table (c .before .before .before .args .chip))
 
 ids-of-requires : tie.Need-ids-of-requires
 ids-of-requires c κs = search needs

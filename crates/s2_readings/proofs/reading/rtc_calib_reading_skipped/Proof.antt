@@ -27,8 +27,11 @@ returns c = answered-refused _ _ Refused (c .plain .ensures) (c .before .before 
 slice-aggregate-rtc-calib-parsed : tie.Need-slice-aggregate-rtc-calib-parsed
 slice-aggregate-rtc-calib-parsed c = search needs
 
+slice-aggregate-rtc-calib-parsed-2 : tie.Need-slice-aggregate-rtc-calib-parsed-2
+slice-aggregate-rtc-calib-parsed-2 c = search needs
+
 rtc-calib-tag-requires : tie.Need-rtc-calib-tag-requires
-rtc-calib-tag-requires c κs = unit-inside _ _ (sym (c .before .before .unit-refusal .ensures) ∙ c .before .if1 .left)
+rtc-calib-tag-requires c κs = unit-inside _ _ (sym (c .before .before .before .unit-refusal .ensures) ∙ c .before .before .if1 .left)
 
 -- the eFuse is skipped, so that nothing is asked of a dump
 skipped : {P : Type 0} → true ≡ false → P
@@ -36,14 +39,14 @@ skipped e = let z : _≡_ {A = ℕ} 0 1 = ap (λ (b : Bool). cond b 0 1) e in ab
 
 rtc-calib-parsed-requires : tie.Need-rtc-calib-parsed-requires
 rtc-calib-parsed-requires c κs =
-    let p = c .before .before in
+    let p = c .before .before .before in
     let good = unit-inside _ _ (sym (p .before .unit-refusal .ensures) ∙ p .if1 .left) in
     (λ e. skipped e, rw (c .rtc-calib-tag .ensures) (tag-in-table _ _ _ _ (good .0) (good .1)))
 
 returns-2 : tie.Need-returns-2
 unfolding skippedReadingOf
 returns-2 c =
-    let p = c .before .before .before in
+    let p = c .before .before .before .before in
     answered-good _ _ Refused (sym (p .before .unit-refusal .ensures) ∙ p .if1 .left)
     (ap Value
     (toZ-ofZ w32 _ (sfits-of (c .rtc-calib-parsed .ok))
@@ -58,6 +61,7 @@ rtc-calib-reading-skipped-spec =
     plain-requires
     returns
     slice-aggregate-rtc-calib-parsed
+    slice-aggregate-rtc-calib-parsed-2
     rtc-calib-tag-requires
     rtc-calib-parsed-requires
     returns-2)

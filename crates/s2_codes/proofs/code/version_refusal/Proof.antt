@@ -1,4 +1,4 @@
--- `s2_codes::code_refusal` meets its contract: at each `return` the tests that led there say which case of the definition holds.
+-- `s2_codes::version_refusal` meets its contract: at each `return` the tests that led there say which case of the definition holds.
 -- Assumes nothing.
 use mathlib.Core.Path.{_≡_, refl, sym, _∙_}
 use lib.Dec.{lit≤}
@@ -9,8 +9,8 @@ use Rattle.inputs.proofs.Inputs.{decoding-good}
 use Rattle.esp32s2.specs.Version.{versionOf}
 use Rattle.s2_codes.proofs.Codes.{code-decoding, code-twelve, code-given}
 use Rattle.esp32s2.proofs.Fields.{field-is}
-use Rattle.s2_codes.proofs.code.code_refusal.Statement.{statement}
-use Rattle.s2_codes.proofs.code.code_refusal.Tie as tie
+use Rattle.s2_codes.proofs.code.version_refusal.Statement.{statement}
+use Rattle.s2_codes.proofs.code.version_refusal.Tie as tie
 
 decoding-refusal-requires : tie.Need-decoding-refusal-requires
 decoding-refusal-requires c κs = search needs
@@ -25,7 +25,7 @@ record-value-requires : tie.Need-record-value-requires
 record-value-requires c κs = search needs
 
 version : (c : tie.After-record-value)
-    → let a = c .before .before .before .before .before .before .args in
+    → let a = c .before .before .before .before .before .before .before .args in
     c .record-value .result ≡ versionOf (now (a .dump)) (now (a .map))
 version c =
     let p = c .before in
@@ -55,6 +55,6 @@ returns-3 c =
     told-as _ _ _ (c .plain2 .ensures) refl
     (sym (code-given _ _ _ _ _ n (p .if1 .left) (version (c .before .before)) (c .before .if2 .left)))
 
-pub code-refusal-spec : {M : Type 1} → statement M
-code-refusal-spec =
+pub version-refusal-spec : {M : Type 1} → statement M
+version-refusal-spec =
     tie.close (tie.spec decoding-refusal-requires returns record-value-requires cast-if2 plain-requires returns-2 plain-requires-2 returns-3)
