@@ -1,9 +1,9 @@
 //! What the binding for Rust costs: a call through bindings/rust, linked as a Rust program links it, against the same call for C. Both
 //! sides look at the number of each answer, and stop where one is refused.
 use suongkivat::raw::SkvRefusal;
-use suongkivat::{correct, Attenuation, Chip, Count, LineRecord, Millivolt, Source, Unit};
+use suongkivat::{correct, Attenuation, Chip, Count, LineRecord, Millivolt, Source, Unit, EIGHTS};
 
-use crate::rows::{fields, mixed_dump, one, Bench, Row, COUNTS};
+use crate::rows::{fields, mixed_dump, one, Bench, Row, COUNTS, DECODINGS};
 use crate::timing::Way;
 
 /// By the place of a function alone a call can cost so much more or less.
@@ -23,16 +23,16 @@ fn row<A: Clone + PartialEq + Default>(work: &str, answers: usize, ways: [Way<A>
 
 impl Bench {
     fn binding_reads(&self) -> Row {
-        let (dump, fields) = (mixed_dump(0), fields(32));
+        let (dump, lengths, fields) = (mixed_dump(0), &EIGHTS, fields(32));
         let ours: Way<u32> = &|out| {
             for (out, field) in out.iter_mut().zip(&fields) {
-                *out = field.read_u32(&dump).expect(GOOD);
+                *out = field.read_u32(&dump, lengths).expect(GOOD);
             }
         };
         let read = self.ours.read_field_u32;
         let c: Way<u32> = &|out| {
             for (out, field) in out.iter_mut().zip(&fields) {
-                let read = read(dump.as_ptr(), dump.len(), *field);
+                let read = read(dump.as_ptr(), dump.len(), lengths.as_ptr(), lengths.len(), *field);
                 *out = taken(read.refusal, read.value);
             }
         };
@@ -40,19 +40,19 @@ impl Bench {
     }
 
     fn binding_decodes(&self) -> Row {
-        let (dump, map, decode) = (&self.field, &self.map, self.ours.decode);
+        let (dump, lengths, map, calls) = (&self.field, &EIGHTS, &self.map, self.ours);
         let ours: Way<LineRecord> = &|out| {
             for (k, out) in (0..8).cycle().zip(out) {
-                *out = LineRecord::decode(dump, map, Unit(k / 4), Attenuation(k % 4)).expect(GOOD);
+                *out = LineRecord::decode(dump, lengths, map, Unit(k / 4), Attenuation(k % 4)).expect(GOOD);
             }
         };
         let c: Way<LineRecord> = &|out| {
             for (k, out) in (0..8).cycle().zip(out) {
-                let decoded = decode(dump.as_ptr(), dump.len(), map.as_ptr(), map.len(), k / 4, k % 4);
+                let decoded = calls.decode(dump, lengths, map, k / 4, k % 4);
                 *out = taken(decoded.refusal, decoded.record);
             }
         };
-        row("decode, two-point", 512, [ours, c])
+        row("decode, two-point", DECODINGS, [ours, c])
     }
 
     fn binding_converts(&self) -> Row {

@@ -3,7 +3,7 @@
 use std::ffi::{c_char, c_int, c_void, CString};
 use std::mem;
 
-use suongkivat::raw::{SkvDecoded, SkvOutcome, SkvRead, SkvVoltage};
+use suongkivat::raw::{SkvCode, SkvDecoded, SkvOutcome, SkvRead, SkvReading, SkvView, SkvVoltage};
 use suongkivat::{Count, Field, LineRecord, Millivolt, Source};
 
 extern "C" {
@@ -13,14 +13,19 @@ extern "C" {
 
 const RTLD_NOW: c_int = 2;
 
-pub type ReadField = extern "C" fn(*const u32, usize, Field) -> SkvRead;
-pub type Decode = extern "C" fn(*const u32, usize, *const u8, usize, u8, u8) -> SkvDecoded;
+pub type ReadField = extern "C" fn(*const u32, usize, *const u8, usize, Field) -> SkvRead;
+pub type Decode = extern "C" fn(*const u32, usize, *const u8, usize, *const u8, usize, u8, u8) -> SkvDecoded;
 pub type NewCal = extern "C" fn(u8, u8) -> SkvDecoded;
 pub type Convert = extern "C" fn(LineRecord, Count) -> SkvVoltage;
 pub type Fill = extern "C" fn(LineRecord, Count, *mut u16, usize) -> SkvOutcome;
 pub type Correct = extern "C" fn(u8, u8, u8, u8, Millivolt) -> SkvVoltage;
+pub type S2Reading = extern "C" fn(*const u32, usize, *const u8, usize, u8, u8, u8) -> SkvReading;
+pub type S2Code = extern "C" fn(*const u32, usize, *const u8, usize, *const u8, usize, u8, u8) -> SkvCode;
+pub type CheckMap = extern "C" fn(u8, *const u8, usize, *const u8, usize) -> SkvOutcome;
+pub type View = extern "C" fn(*const u32, usize, *const u32, usize, *const u8, usize, u8, u8) -> SkvView;
 pub type TellSource = extern "C" fn(Source);
 type Load = extern "C" fn(*const u32, u8);
+type LoadS2 = extern "C" fn(*const u32);
 
 struct Object(*mut c_void);
 
@@ -51,6 +56,8 @@ pub struct Calls {
     pub convert: Convert,
     pub fill: Fill,
     pub correct: Correct,
+    pub s2_reading_vinit: S2Reading,
+    pub s2_init_code: S2Code,
     load: Load,
 }
 
@@ -64,6 +71,8 @@ impl Calls {
             convert: object.find("skv_convert"),
             fill: object.find("skv_fill"),
             correct: object.find("skv_correct"),
+            s2_reading_vinit: object.find("skv_s2_reading_vinit"),
+            s2_init_code: object.find("skv_s2_init_code"),
             load,
         }
     }
@@ -73,9 +82,28 @@ impl Calls {
         Self::of(&Object::open(path), other.calls.load)
     }
 
+    /// A decoding of lent slices.
+    #[inline]
+    pub fn decode(&self, dump: &[u32], lengths: &[u8], map: &[u8], unit: u8, atten: u8) -> SkvDecoded {
+        (self.decode)(dump.as_ptr(), dump.len(), lengths.as_ptr(), lengths.len(), map.as_ptr(), map.len(), unit, atten)
+    }
+
     /// Makes the words esp-hal's dump, and the number its C6's minor block version.
     pub fn load(&self, dump: &[u32; 88], minor: u8) {
         (self.load)(dump.as_ptr(), minor);
+    }
+}
+
+/// The calls that only ours has.
+pub struct Own {
+    pub check_map: CheckMap,
+    pub view: View,
+}
+
+impl Own {
+    pub fn open(path: &str) -> Self {
+        let object = Object::open(path);
+        Self { check_map: object.find("skv_check_map"), view: object.find("skv_view") }
     }
 }
 
@@ -87,6 +115,7 @@ pub struct Crate {
     pub new_cal: NewCal,
     /// Says what its decodings give as their source.
     pub tell_source: TellSource,
+    load_s2: LoadS2,
 }
 
 impl Crate {
@@ -94,6 +123,17 @@ impl Crate {
         let object = Object::open(path);
         let calls = Calls::of(&object, object.find("load"));
         let tested = Calls { convert: object.find("tested_convert"), ..calls };
-        Self { calls, tested, new_cal: object.find("new_cal"), tell_source: object.find("tell_source") }
+        Self {
+            calls,
+            tested,
+            new_cal: object.find("new_cal"),
+            tell_source: object.find("tell_source"),
+            load_s2: object.find("load_s2"),
+        }
+    }
+
+    /// Makes the words the dump of esp-hal's S2.
+    pub fn load_s2(&self, dump: &[u32; 88]) {
+        (self.load_s2)(dump.as_ptr());
     }
 }

@@ -1,14 +1,16 @@
 //! esp-hal's own functions behind the calls of include/suongkivat.h: the same names, structs by value and lent lists, so that they
-//! are called just as ours are. Nothing is checked and nothing refused, as in esp-hal. Built once for each build of esp-hal.
+//! are called just as ours are. Nothing is checked and nothing refused, as in esp-hal, which has no list of block lengths either. Built
+//! once for each build of esp-hal.
 use std::slice;
 use std::sync::atomic::{AtomicU8, Ordering};
 
 use esp32::analog::adc::{AdcCalLine, AdcCalScheme};
 use esp32::efuse::Home;
 use esp32::peripherals::{ADC1, ADC2};
+use esp32s2::efuse::{AdcCalibUnit, RtcCalibParam};
 use oracle::line::Record;
 use oracle::rules;
-use suongkivat::raw::{SkvDecoded, SkvOutcome, SkvRead, SkvRefusal, SkvVoltage};
+use suongkivat::raw::{SkvCode, SkvDecoded, SkvOutcome, SkvRead, SkvReading, SkvRefusal, SkvVoltage};
 use suongkivat::{Attenuation, Count, Field, LineRecord, Millivolt, Source, Unit};
 
 const NONE: SkvRefusal = SkvRefusal { number: 0, record: 0, place: 0 };
@@ -21,11 +23,23 @@ pub unsafe extern "C" fn load(dump: *const u32, minor: u8) {
     esp32c6::reach::set(esp32c6::efuse::Home::BLK_VERSION_MINOR, minor.into());
 }
 
+/// The same for the S2, which has a memory of its own.
+#[no_mangle]
+pub unsafe extern "C" fn load_s2(dump: *const u32) {
+    esp32s2::reach::load(&*dump.cast::<oracle::Dump>());
+}
+
 /// `read_field_le` at a width.
 macro_rules! read_field {
     ($name:ident, $width:ty) => {
         #[no_mangle]
-        pub extern "C" fn $name(_dump: *const u32, _dump_len: usize, field: Field) -> SkvRead {
+        pub extern "C" fn $name(
+            _dump: *const u32,
+            _dump_len: usize,
+            _lengths: *const u8,
+            _lengths_len: usize,
+            field: Field,
+        ) -> SkvRead {
             let field = esp32::reach::field(field.block.into(), field.bit_start.into(), field.bit_count.into());
             SkvRead { refusal: NONE, value: esp32::efuse::read_field_le::<$width>(field).into() }
         }
@@ -67,6 +81,8 @@ pub extern "C" fn new_cal(unit: u8, atten: u8) -> SkvDecoded {
 pub unsafe extern "C" fn skv_decode(
     _dump: *const u32,
     _dump_len: usize,
+    _lengths: *const u8,
+    _lengths_len: usize,
     map: *const u8,
     map_len: usize,
     unit: u8,
@@ -104,6 +120,40 @@ pub unsafe extern "C" fn skv_fill(cal: LineRecord, first: Count, out: *mut u16, 
         *out = line.adc_val(raw);
     }
     SkvOutcome { refusal: NONE }
+}
+
+/// `rtc_calib_reading` of the initial code.
+#[no_mangle]
+pub extern "C" fn skv_s2_reading_vinit(
+    _dump: *const u32,
+    _dump_len: usize,
+    _lengths: *const u8,
+    _lengths_len: usize,
+    version: u8,
+    unit: u8,
+    atten: u8,
+) -> SkvReading {
+    let attenuation = esp32s2::reach::attenuation(atten);
+    let value = esp32s2::efuse::rtc_calib_reading(version, unit, attenuation, RtcCalibParam::Vinit);
+    SkvReading { refusal: NONE, value }
+}
+
+/// `rtc_calib_init_code`, with its version read by `read_field_le` where the map has it.
+#[no_mangle]
+pub unsafe extern "C" fn skv_s2_init_code(
+    _dump: *const u32,
+    _dump_len: usize,
+    _lengths: *const u8,
+    _lengths_len: usize,
+    map: *const u8,
+    map_len: usize,
+    unit: u8,
+    atten: u8,
+) -> SkvCode {
+    esp32s2::reach::bring_home(esp32s2::efuse::Home::BLK_VERSION_MINOR, slice::from_raw_parts(map, map_len));
+    let unit = if unit == 0 { AdcCalibUnit::ADC1 } else { AdcCalibUnit::ADC2 };
+    let code = esp32s2::efuse::rtc_calib_init_code(unit, esp32s2::reach::attenuation(atten));
+    SkvCode { refusal: NONE, code: code.expect("version 2") }
 }
 
 /// A curve of a chip's unit at a line answer: its table is selected, then `adc_val`.

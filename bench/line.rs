@@ -2,7 +2,7 @@
 use std::hint::black_box;
 
 use suongkivat::raw::{SkvOutcome, SkvVoltage};
-use suongkivat::{Attenuation, Count, LineRecord, Source};
+use suongkivat::{Attenuation, Count, LineRecord, Source, EIGHTS};
 
 use crate::calls::Calls;
 use crate::rows::{one, Bars, Bench, Row, Work, BEATEN, COUNTS, NONE, NO_VOLTAGE};
@@ -53,7 +53,7 @@ impl Bench {
     pub fn record(&self, source: Source, lookup: bool) -> LineRecord {
         let (dump, map) = (self.board(source), &self.map);
         let attenuation = if lookup { Attenuation::DB_11 } else { Attenuation::DB_6 };
-        let decoded = (self.ours.decode)(dump.as_ptr(), dump.len(), map.as_ptr(), map.len(), 0, attenuation.0);
+        let decoded = self.ours.decode(dump, &EIGHTS, map, 0, attenuation.0);
         assert_eq!((decoded.refusal, decoded.record.source), (NONE, source));
         decoded.record
     }

@@ -1,9 +1,11 @@
 //! main OURS RELEASE CHECKED WHOLE: times the calls of four shared objects on the same inputs, and prints a table. `bench/run` builds
 //! them.
 mod binding;
+mod blocks;
 mod calls;
 mod line;
 mod rows;
+mod s2;
 mod timing;
 
 use rows::{Bench, Held, Row};

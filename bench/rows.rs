@@ -2,9 +2,9 @@
 use std::fs;
 
 use suongkivat::raw::{SkvDecoded, SkvRead, SkvRefusal, SkvVoltage};
-use suongkivat::{Attenuation, Field, LineRecord, Millivolt, Source, Unit};
+use suongkivat::{Attenuation, Field, LineRecord, Millivolt, Source, Unit, EIGHTS};
 
-use crate::calls::{Calls, Crate, ReadField};
+use crate::calls::{Calls, Crate, Own, ReadField};
 use crate::timing::{contest, Outcome, Ratio, Side, Way};
 
 pub const COUNTS: u16 = 4096;
@@ -26,6 +26,10 @@ const NO_READ: SkvRead = SkvRead { refusal: NONE, value: 0 };
 pub const NO_VOLTAGE: SkvVoltage = SkvVoltage { refusal: NONE, voltage: Millivolt(0) };
 const NO_RECORD: LineRecord =
     LineRecord { coeff_a: 0, coeff_b: 0, vref: 0, unit: Unit(0), attenuation: Attenuation(0), source: Source(0) };
+pub const NO_DECODED: SkvDecoded = SkvDecoded { refusal: NONE, record: NO_RECORD };
+
+/// Answers of a decoding that are timed together: each unit at each attenuation, over and over.
+pub const DECODINGS: usize = 512;
 
 /// A ratio, and the bar that it is held to.
 pub struct Held {
@@ -62,11 +66,12 @@ pub type Work<'a, A> = &'a dyn Fn(&Calls, &mut [A]);
 
 pub struct Bench {
     pub ours: Calls,
+    pub own: Own,
     pub release: Crate,
     checked: Crate,
     whole: Crate,
     pub field: [u32; 88],
-    reference: [u32; 88],
+    pub reference: [u32; 88],
     pub map: Vec<u8>,
 }
 
@@ -116,6 +121,7 @@ impl Bench {
         let release = Crate::open(release);
         Self {
             ours: Calls::ours(ours, &release),
+            own: Own::open(ours),
             release,
             checked: Crate::open(checked),
             whole: Crate::open(whole),
@@ -134,7 +140,7 @@ impl Bench {
         }
     }
 
-    fn builds(&self) -> [&Crate; 3] {
+    pub fn builds(&self) -> [&Crate; 3] {
         [&self.release, &self.checked, &self.whole]
     }
 
@@ -160,14 +166,14 @@ impl Bench {
 
     /// Fields of a dump of mixed bits.
     fn read_field(&self, width: u16, bar: Option<f64>, read: fn(&Calls) -> ReadField) -> Row {
-        let dump = mixed_dump(0);
+        let (dump, lengths) = (mixed_dump(0), &EIGHTS);
         self.load(&dump);
         let fields = fields(width);
         let blank = vec![NO_READ; fields.len()];
         self.all(format!("read a field, {width} bits"), [bar, None, None], &blank, &|calls, out| {
             let read = read(calls);
             for (out, field) in out.iter_mut().zip(&fields) {
-                *out = read(dump.as_ptr(), dump.len(), *field);
+                *out = read(dump.as_ptr(), dump.len(), lengths.as_ptr(), lengths.len(), *field);
             }
         })
     }
@@ -175,7 +181,7 @@ impl Bench {
     /// The map's fields of one dump after the other. esp-hal reads from one memory, so each dump has to be put there first: every
     /// side does it, and for none does it count.
     fn mapped_fields(&self) -> Row {
-        let fields = mapped(&self.map);
+        let (fields, lengths) = (mapped(&self.map), &EIGHTS);
         let dumps: Vec<_> = (0..DUMPS).map(mixed_dump).collect();
         let blank = vec![NO_READ; fields.len() * dumps.len()];
         let loads: Work<SkvRead> = &|calls, _| dumps.iter().for_each(|dump| calls.load(dump, MINOR));
@@ -183,7 +189,7 @@ impl Bench {
             for (dump, out) in dumps.iter().zip(out.chunks_mut(fields.len())) {
                 calls.load(dump, MINOR);
                 for (out, field) in out.iter_mut().zip(&fields) {
-                    *out = (calls.read_field_u32)(dump.as_ptr(), dump.len(), *field);
+                    *out = (calls.read_field_u32)(dump.as_ptr(), dump.len(), lengths.as_ptr(), lengths.len(), *field);
                 }
             }
         };
@@ -194,13 +200,13 @@ impl Bench {
     /// Decoding each unit at each attenuation, by a map; and against esp-hal's alone, whose fields hold then what the map's did. Its
     /// record has no source, so it is told the board's, which doesn't count.
     fn decode(&self, name: &str, source: Source, bars: Bars) -> [Row; 2] {
-        let (dump, map) = (self.board(source), &self.map);
+        let (dump, lengths, map) = (self.board(source), &EIGHTS, &self.map);
         self.load(dump);
         self.builds().iter().for_each(|build| (build.tell_source)(source));
-        let blank = vec![SkvDecoded { refusal: NONE, record: NO_RECORD }; 512];
+        let blank = vec![NO_DECODED; DECODINGS];
         let how: Work<SkvDecoded> = &|calls, out| {
             for (k, out) in (0..8).cycle().zip(out) {
-                *out = (calls.decode)(dump.as_ptr(), dump.len(), map.as_ptr(), map.len(), k / 4, k % 4);
+                *out = calls.decode(dump, lengths, map, k / 4, k % 4);
             }
         };
         let mapped = self.all(format!("decode, {name}"), bars, &blank, how);
@@ -252,6 +258,8 @@ impl Bench {
         rows.extend(self.line());
         rows.extend(self.curves());
         rows.extend(self.binding());
+        rows.extend(self.blocks());
+        rows.extend(self.s2());
         rows
     }
 }

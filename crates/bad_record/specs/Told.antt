@@ -34,7 +34,7 @@ wrongOf why =
     cond (eqb (why .number) 3) (wrongId (why .«record»))
     (cond (eqb (why .number) 18) (wrongByte (why .place))
     (cond (eqb (why .number) 4) (said "its block is above 10")
-    (cond (eqb (why .number) 5) (said "its bit start is above 255, or its field ends past bit 255")
+    (cond (eqb (why .number) 5) (said "its bit start is above 255, or its block is too short for it")
     (said "its bit count isn't its id's"))))
 
 -- which record, and then what

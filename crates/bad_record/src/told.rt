@@ -88,7 +88,7 @@ fn put_wrong(out: &mut [u8], at: usize, why: Refusal) -> usize
         5 => put(
             out,
             at,
-            b"its bit start is above 255, or its field ends past bit 255",
+            b"its bit start is above 255, or its block is too short for it",
         ),
         _ => put(out, at, b"its bit count isn't its id's"),
     }

@@ -1,4 +1,5 @@
-// The desk program: reads field.bin, reference.bin, map.bin and samples.bin of the current folder, and writes a line for each sample.
+// The desk program: reads field.bin, reference.bin, lengths.bin, map.bin and samples.bin of the current folder, and writes a line for each
+// sample.
 // What is wrong is told on standard error.
 use libc::STDOUT_FILENO;
 
@@ -6,6 +7,7 @@ fn main() {
     session::desk::run(
         b"field.bin",
         b"reference.bin",
+        b"lengths.bin",
         b"map.bin",
         b"samples.bin",
         STDOUT_FILENO,

@@ -10,6 +10,10 @@ use Rattle.terms.specs.Refusal.{refuse}
 abbrev pub wordsOf : List ℕ → ℕ → ℕ
 wordsOf lengths block = getD lengths block 0
 
+-- "eleven eights"
+abbrev pub eights : List ℕ
+eights = 8 ∷ 8 ∷ 8 ∷ 8 ∷ 8 ∷ 8 ∷ 8 ∷ 8 ∷ 8 ∷ 8 ∷ 8 ∷ []
+
 -- whether each of a list is at most that
 unfoldable pub eachAtMost : ℕ → List ℕ → Bool
 eachAtMost most [] = true

@@ -9,6 +9,9 @@ pub const BLOCKS: usize = 11;
 
 const MOST_WORDS: u8 = 8;
 
+// The list of a chip whose blocks all have eight words.
+pub const EIGHTS: [u8; 11] = [8, 8, 8, 8, 8, 8, 8, 8, 8, 8, 8];
+
 // The largest of eleven lengths. All of them are looked at, since a list is good nearly always.
 fn longest(lengths: &[u8]) -> u8
     requires { ⌜ length (now lengths) ≡ 11 ⌝ }

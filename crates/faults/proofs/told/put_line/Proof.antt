@@ -35,6 +35,18 @@ put-words-requires c κs = search needs
 put-end-requires-2 : tie.Need-put-end-requires-2
 put-end-requires-2 c κs = search needs
 
+enum-known-fault-3 : tie.Need-enum-known-fault-3
+enum-known-fault-3 c = search needs
+
+put-name-requires-3 : tie.Need-put-name-requires-3
+put-name-requires-3 c κs = search needs
+
+put-long-requires : tie.Need-put-long-requires
+put-long-requires c κs = search needs
+
+put-end-requires-3 : tie.Need-put-end-requires-3
+put-end-requires-3 c κs = search needs
+
 returns : tie.Need-returns
 unfolding faultText
 returns c = rw (c .enum-told .given .1) (put-none _ _ (search needs))
@@ -61,6 +73,17 @@ returns-3 c =
     rw (n .before .before .before .fault2 .given .1)
     (put-more (put-more (n .put-name2 .ensures .0) (w .put-words .ensures .0)) (c .before .before .put-end2 .ensures))
 
+same-length-3 : tie.Need-same-length-3
+same-length-3 c = search needs
+
+returns-4 : tie.Need-returns-4
+unfolding faultText
+returns-4 c =
+    let w = c .before .before .before .before .before .before in
+    let n = w .before .before .before .before in
+    rw (n .before .before .before .fault3 .given .1)
+    (put-more (put-more (n .put-name3 .ensures .0) (w .put-long .ensures .0)) (c .before .before .put-end3 .ensures))
+
 pub put-line-spec : {M : Type 1} → statement M
 put-line-spec =
     tie.close
@@ -75,8 +98,14 @@ put-line-spec =
     put-name-requires-2
     put-words-requires
     put-end-requires-2
+    enum-known-fault-3
+    put-name-requires-3
+    put-long-requires
+    put-end-requires-3
     returns
     same-length
     returns-2
     same-length-2
-    returns-3)
+    returns-3
+    same-length-3
+    returns-4)

@@ -40,6 +40,15 @@ slice-aggregate-put-4 c = search needs
 put-requires-4 : tie.Need-put-requires-4
 put-requires-4 c κs = search needs
 
+enum-told-5 : tie.Need-enum-told-5
+enum-told-5 c = search needs
+
+slice-aggregate-put-5 : tie.Need-slice-aggregate-put-5
+slice-aggregate-put-5 c = search needs
+
+put-requires-5 : tie.Need-put-requires-5
+put-requires-5 c κs = search needs
+
 same-length : tie.Need-same-length
 same-length c = search needs
 
@@ -64,6 +73,12 @@ same-length-4 c = search needs
 returns-4 : tie.Need-returns-4
 returns-4 c = rw (c .before .before .before .before .before .enum-told4 .given .1) (c .before .before .put4 .ensures, search needs)
 
+same-length-5 : tie.Need-same-length-5
+same-length-5 c = search needs
+
+returns-5 : tie.Need-returns-5
+returns-5 c = rw (c .before .before .before .before .before .enum-told5 .given .1) (c .before .before .put5 .ensures, search needs)
+
 pub put-name-spec : {M : Type 1} → statement M
 put-name-spec =
     tie.close
@@ -80,6 +95,9 @@ put-name-spec =
     enum-told-4
     slice-aggregate-put-4
     put-requires-4
+    enum-told-5
+    slice-aggregate-put-5
+    put-requires-5
     same-length
     returns
     same-length-2
@@ -87,4 +105,6 @@ put-name-spec =
     same-length-3
     returns-3
     same-length-4
-    returns-4)
+    returns-4
+    same-length-5
+    returns-5)
