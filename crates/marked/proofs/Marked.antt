@@ -4,6 +4,7 @@ use mathlib.Core.List.{map, flatten}
 use Rattle.terms.specs.Refusal.{firstOf, unitRefusal, rawRefusal}
 use Rattle.terms.specs.Sign.{signMagnitude}
 use Rattle.dumps.specs.Dump.{dumpRefusal}
+use Rattle.dumps.specs.Lengths.{eachAtMost, lengthsRefusal}
 use Rattle.efuse.specs.Field.{bitsOf, placeRefusal, fieldBits}
 use Rattle.maps.specs.Map.{countRefusal, mapRecordRefusal, mapRefusal}
 use Rattle.maps.specs.Told.{toldOf}
@@ -19,7 +20,9 @@ use Rattle.lut.specs.Lookup.{numeratorAt, voltageAt}
 use Rattle.line.specs.Convert.{lineVoltage, blendOf, beyondLine, answerAt, convertRefusal, convertOf}
 use Rattle.s2_readings.specs.Table.{calibMap, entryAt}
 use Rattle.s2_readings.specs.Tag.{byVersion, tagOf}
-use Rattle.s2_readings.specs.Reading.{termOf, within, readingOf, readingRefusal, calibReadingOf}
+use Rattle.s2_readings.specs.Chain.{chainRefusal}
+use Rattle.s2_readings.specs.Rule.{afterLinks}
+use Rattle.s2_readings.specs.Reading.{termOf, within, readingOf, chosenRefusal, readingRefusal, calibReadingOf}
 use Rattle.terms.specs.C6Version.{versionOf}
 use Rattle.esp32c6.specs.Code.{versionRefusal, codeRefusal, offsetOf, calCode, calCodeOf}
 use Rattle.esp32c6.specs.Channel.{compensOf, chanCompensOf}
@@ -35,9 +38,9 @@ unfolding
     tpScale tpOffset vrefScale vrefOffset twoPointA topOf bOf bRefusal twoPointB coefficientsOf basisRefusal
     usesLookup lineInRanges converterInRanges hasVrefLine fitsSource goodRecord recordRefusal
     lowAt highAt numeratorAt voltageAt lineVoltage blendOf beyondLine answerAt convertRefusal convertOf
-    firstOf dumpRefusal bitsOf placeRefusal fieldBits countRefusal mapRecordRefusal mapRefusal toldOf decodingRefusal valueById
+    firstOf eachAtMost lengthsRefusal dumpRefusal bitsOf placeRefusal fieldBits countRefusal mapRecordRefusal mapRefusal toldOf decodingRefusal valueById
     twoPointUsed basisOf sourceOf foundOf decodedRecord decodeRefusal decodeOf
-    flatten calibMap entryAt byVersion tagOf termOf within readingOf readingRefusal calibReadingOf
+    flatten calibMap entryAt byVersion tagOf termOf within readingOf afterLinks chainRefusal chosenRefusal readingRefusal calibReadingOf
     versionOf versionRefusal codeRefusal offsetOf calCode calCodeOf compensOf chanCompensOf
     nearest doublings scaled magnitude coefficient tableOf horner errorOf correctedOf correctRefusal correctOf unitRefusal rawRefusal
 marked = refl

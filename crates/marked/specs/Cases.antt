@@ -9,7 +9,7 @@ use Rattle.terms.specs.declared.chip.Chip.the-variants.{C3, S3}
 use Rattle.terms.specs.Code.{valueOf as codeValue}
 use Rattle.terms.specs.Reading.{valueOf as readingValue}
 use Rattle.terms.specs.Voltage.{valueOf as voltageOf}
-use Rattle.dumps.specs.Dump.{eight}
+use Rattle.dumps.specs.Lengths.{eights}
 use Rattle.line_record.specs.declared.record.LineRecord.{LineRecord}
 use Rattle.esp32.specs.Code.{vrefOf, twoPointCode, lowOf, highOf}
 use Rattle.esp32.specs.Characterize.{topOf}
@@ -57,7 +57,7 @@ twoPoints low high = 256 ∷ replicate 7 0 ++ ((low + 256 + 65536 * high) ∷ 1 
 
 -- the record of unit 0 at 11 dB, and its a and b
 abbrev decoded : List ℕ → LineRecord
-decoded dump = recordDecoded (decodeOf eight dump mapped 0 3)
+decoded dump = recordDecoded (decodeOf eights dump mapped 0 3)
 
 abbrev a-and-b : List ℕ → List ℕ
 a-and-b dump = decoded dump .«coeff_a» ∷ decoded dump .«coeff_b» ∷ []
@@ -71,11 +71,11 @@ abbrev top : ℕ → ℕ → ℕ
 top low high = topOf (lowOf 0 low) (highOf 0 high)
 
 abbrev number : ℕ → ℕ → ℕ → ℕ
-number low high atten = refusalDecoded (decodeOf eight (twoPoints low high) mapped 0 atten) .number
+number low high atten = refusalDecoded (decodeOf eights (twoPoints low high) mapped 0 atten) .number
 
 -- the S2's reading of version 2. Its tags are unit × 4 + attenuation after 17 for the high reading, after 25 for the initial code
 abbrev reading : List ℕ → ℕ → ℕ → RtcCalibParam → ℤ
-reading dump unit atten param = readingValue (calibReadingOf dump 2 unit atten param)
+reading dump unit atten param = readingValue (calibReadingOf eights dump 2 unit atten param)
 
 -- a C6 map whose fields all start at bit 0 of block 1, so that in a dump of equal words each has the low bits of the word
 abbrev fields : ℕ → List ℕ → List (List ℕ)
@@ -91,10 +91,10 @@ mapped-c6 =
 
 -- the C6's reference code and the compensation of channel 0, of unit 0, by the bits of the field
 abbrev referenceCode : ℕ → ℕ → ℕ → ℕ
-referenceCode minor atten bits = codeValue (calCodeOf eight (filledWith bits) mapped-c6 minor 0 atten)
+referenceCode minor atten bits = codeValue (calCodeOf eights (filledWith bits) mapped-c6 minor 0 atten)
 
 abbrev compensation : ℕ → ℕ → ℤ
-compensation bits atten = readingValue (chanCompensOf eight (filledWith bits) mapped-c6 0 0 atten)
+compensation bits atten = readingValue (chanCompensOf eights (filledWith bits) mapped-c6 0 0 atten)
 
 -- the curve's answer to a line answer of 1 mV, at 11 dB
 abbrev corrected : Chip → ℕ → ℕ

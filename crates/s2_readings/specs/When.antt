@@ -4,6 +4,7 @@
 use mathlib.Core.Path.{_≡_}
 use mathlib.Core.List.{List}
 use Prim.Native.Nat.{ℕ, _+_, _*_, _≤_, _<_}
+use lib.ListN.{length}
 use Rattle.terms.specs.When.{UnitWhen}
 use Rattle.dumps.specs.Lengths.{wordsOf}
 use Rattle.dumps.specs.When.{DumpWhen}
@@ -27,3 +28,14 @@ pub data ReadingWhen (lengths dump : List ℕ) (version unit atten : ℕ) (param
       → ReadingWhen lengths dump version unit atten param n
   reading-chain : {n : ℕ} → DumpWhen lengths dump 0 → UnitWhen unit atten 0 → ChainWhen lengths (tagOf version unit atten param) n
       → ReadingWhen lengths dump version unit atten param n
+
+-- the same for a caller that has checked the list, of which only block 2's length is looked at: 1, 20, 7, 5
+-- 1: "the dump hasn't 88 words"
+-- 20: that length is above 8
+pub data TableWhen (lengths dump : List ℕ) (version unit atten : ℕ) (param : RtcCalibParam) : ℕ → Type 0 where
+  table-dump : (length dump ≡ 88 → ⊥) → TableWhen lengths dump version unit atten param 1
+  table-lengths : length dump ≡ 88 → 8 < wordsOf lengths 2 → TableWhen lengths dump version unit atten param 20
+  table-unit : {n : ℕ} → length dump ≡ 88 → wordsOf lengths 2 ≤ 8 → UnitWhen unit atten n → (n ≡ 0 → ⊥)
+      → TableWhen lengths dump version unit atten param n
+  table-chain : {n : ℕ} → length dump ≡ 88 → wordsOf lengths 2 ≤ 8 → UnitWhen unit atten 0
+      → ChainWhen lengths (tagOf version unit atten param) n → TableWhen lengths dump version unit atten param n
