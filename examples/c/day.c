@@ -1,7 +1,9 @@
 /* Suongkivat from C: the records of two boards, a few counts by each, and a log's samples as the desk program answers them. Run in a
-   folder with field.bin, reference.bin, map.bin and samples.bin; examples/run builds it. */
+   folder with field.bin, reference.bin, map.bin, samples.bin and, where the chip has short blocks, lengths.bin; examples/run
+   builds it. */
 #include "suongkivat.h"
 
+#include <errno.h>
 #include <stdio.h>
 
 enum { WORD = 4 };
@@ -14,6 +16,25 @@ typedef struct Dump {
     uint32_t words[SKV_DUMP_WORDS];
     size_t len;
 } Dump;
+
+/* A list or a map; there is room for a byte too many, so that a file which is too long is refused. */
+typedef struct Lengths {
+    uint8_t bytes[SKV_BLOCKS + 1];
+    size_t len;
+} Lengths;
+
+typedef struct Map {
+    uint8_t bytes[SKV_ESP32_MAP_BYTES + 1];
+    size_t len;
+} Map;
+
+/* The boards, and what both go by. */
+typedef struct Session {
+    Dump field;
+    Dump reference;
+    Lengths lengths;
+    Map map;
+} Session;
 
 /* Reads up to that many bytes of a file; a missing one counts as empty. */
 static size_t load(const char *name, uint8_t *bytes, size_t size)
@@ -35,6 +56,27 @@ static Dump load_dump(const char *name)
     for (size_t k = 0; k < dump.len * WORD; k++)
         dump.words[k / WORD] |= (uint32_t)bytes[k] << (8 * (k % WORD));
     return dump;
+}
+
+/* How many words each block has: without a file eight, as the desk program has it. */
+static Lengths load_lengths(const char *name)
+{
+    Lengths lengths = {SKV_EIGHTS, SKV_BLOCKS};
+    FILE *file = fopen(name, "rb");
+    if (file) {
+        lengths.len = fread(lengths.bytes, 1, sizeof lengths.bytes, file);
+        fclose(file);
+    } else if (errno != ENOENT) {
+        lengths.len = 0; /* it is there, and can't be read */
+    }
+    return lengths;
+}
+
+static Map load_map(const char *name)
+{
+    Map map;
+    map.len = load(name, map.bytes, sizeof map.bytes);
+    return map;
 }
 
 static void print_answer(SkvVoltage answer)
@@ -64,10 +106,12 @@ static void print_undecoded(SkvRefusal refusal)
 }
 
 /* A board's record for a unit and an attenuation, with where it comes from, and what it makes of a few counts. */
-static void print_record(char board, const Dump *dump, const uint8_t *map, size_t map_len, uint8_t unit, uint8_t atten)
+static void print_record(char board, const Session *s, uint8_t unit, uint8_t atten)
 {
     const SkvCount counts[] = {{0}, {2880}, {2912}, {4095}, {4096}};
-    const SkvDecoded decoded = skv_decode(dump->words, dump->len, map, map_len, unit, atten);
+    const Dump *dump = board == 'F' ? &s->field : &s->reference;
+    const SkvDecoded decoded =
+        skv_decode(dump->words, dump->len, s->lengths.bytes, s->lengths.len, s->map.bytes, s->map.len, unit, atten);
     const SkvLineRecord cal = decoded.record;
     printf("record %c, unit %u, attenuation %u: ", board, unit, atten);
     if (decoded.refusal.number != SKV_NONE) {
@@ -83,7 +127,7 @@ static void print_record(char board, const Dump *dump, const uint8_t *map, size_
 }
 
 /* A log of any length, sample by sample; what is left at its end is none, or a torn one. */
-static void print_log(const char *name, const Dump *field, const Dump *reference, const uint8_t *map, size_t map_len)
+static void print_log(const char *name, const Session *s)
 {
     FILE *log = fopen(name, "rb");
     for (unsigned long number = 0; log; number++) {
@@ -97,18 +141,17 @@ static void print_log(const char *name, const Dump *field, const Dump *reference
             return;
         }
         printf("%lu %c %u ", number, sample.board == 0 ? 'F' : sample.board == 1 ? 'R' : '?', sample.raw.raw);
-        print_answer(skv_sample(sample, field->words, field->len, reference->words, reference->len, map, map_len));
+        print_answer(skv_sample(sample, s->field.words, s->field.len, s->reference.words, s->reference.len, s->lengths.bytes,
+                                s->lengths.len, s->map.bytes, s->map.len));
     }
 }
 
 int main(void)
 {
-    uint8_t map[SKV_ESP32_MAP_BYTES + 1];
-    const Dump field = load_dump("field.bin"), reference = load_dump("reference.bin");
-    const size_t map_len = load("map.bin", map, sizeof map);
-    print_record('F', &field, map, map_len, 0, 3);
-    print_record('F', &field, map, map_len, 1, 0);
-    print_record('R', &reference, map, map_len, 0, 3);
-    print_log("samples.bin", &field, &reference, map, map_len);
+    const Session session = {load_dump("field.bin"), load_dump("reference.bin"), load_lengths("lengths.bin"), load_map("map.bin")};
+    print_record('F', &session, 0, 3);
+    print_record('F', &session, 1, 0);
+    print_record('R', &session, 0, 3);
+    print_log("samples.bin", &session);
     return 0;
 }

@@ -1,6 +1,7 @@
 #!/usr/bin/env python3
 """day: Suongkivat from Python: the records of two boards, a few counts by each, and a log's samples as the desk program answers them. Run
-in a folder with field.bin, reference.bin, map.bin and samples.bin, with bindings/python on PYTHONPATH; examples/run does both.
+in a folder with field.bin, reference.bin, map.bin, samples.bin and, where the chip has short blocks, lengths.bin, with bindings/python
+on PYTHONPATH; examples/run does both.
 """
 import pathlib
 
@@ -10,10 +11,10 @@ SOURCES = {suongkivat.Source.TWO_POINT: "two points", suongkivat.Source.VREF: "V
 ATTENUATIONS = "0 dB", "2.5 dB", "6 dB", "11 dB"
 
 
-def load(name):
-    """A file's bytes; a missing one counts as empty."""
+def load(name, missing=b""):
+    """A file's bytes; a missing one counts as empty, or as what is said."""
     path = pathlib.Path(name)
-    return path.read_bytes() if path.exists() else b""
+    return path.read_bytes() if path.exists() else missing
 
 
 def undecoded(refused):
@@ -50,7 +51,9 @@ def print_log(session, log):
 
 
 def main():
-    session = suongkivat.Session(load("field.bin"), load("reference.bin"), load("map.bin"))
+    # how many words each block has: without a file eight, as the desk program has it
+    lengths = load("lengths.bin", suongkivat.EIGHTS)
+    session = suongkivat.Session(load("field.bin"), load("reference.bin"), lengths, load("map.bin"))
     print_record("F", session.field, 0, 3)
     print_record("F", session.field, 1, 0)
     print_record("R", session.reference, 0, 3)

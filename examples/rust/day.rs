@@ -1,8 +1,12 @@
 //! Suongkivat from Rust: the records of two boards, a few counts by each, and a log's samples as the desk program answers them. Run in
-//! a folder with field.bin, reference.bin, map.bin and samples.bin; examples/run builds it with the crate of bindings/rust.
+//! a folder with field.bin, reference.bin, map.bin, samples.bin and, where the chip has short blocks, lengths.bin; examples/run
+//! builds it with the crate of bindings/rust.
 use std::fs;
+use std::io::ErrorKind;
 
-use suongkivat::{dump_from_bytes, Answer, Attenuation, Board, Count, LineRecord, Log, Millivolt, Refusal, Session, Unit};
+use suongkivat::{
+    dump_from_bytes, Answer, Attenuation, Board, Count, LineRecord, Log, Millivolt, Refusal, Session, Unit, EIGHTS,
+};
 
 /// A file's bytes; a missing one counts as empty.
 fn load(name: &str) -> Vec<u8> {
@@ -12,6 +16,14 @@ fn load(name: &str) -> Vec<u8> {
 /// A dump file has 352 bytes; one of another length is a dump without words, which each call refuses.
 fn load_dump(name: &str) -> Vec<u32> {
     dump_from_bytes(&load(name)).map_or(Vec::new(), Vec::from)
+}
+
+/// How many words each block has: without a file eight, as the desk program has it.
+fn load_lengths(name: &str) -> Vec<u8> {
+    match fs::read(name) {
+        Err(why) if why.kind() == ErrorKind::NotFound => EIGHTS.to_vec(),
+        bytes => bytes.unwrap_or_default(),
+    }
 }
 
 /// As the desk program says it; the refusal's own `Display` has the words.
@@ -59,9 +71,10 @@ fn print_log(log: Log, session: Session, map: &[u8]) {
 
 fn main() {
     let (field, reference) = (load_dump("field.bin"), load_dump("reference.bin"));
-    let (map, log) = (load("map.bin"), load("samples.bin"));
-    print_record('F', Board { dump: &field, map: &map }, Unit::ADC1, Attenuation::DB_11);
-    print_record('F', Board { dump: &field, map: &map }, Unit::ADC2, Attenuation::DB_0);
-    print_record('R', Board { dump: &reference, map: &map }, Unit::ADC1, Attenuation::DB_11);
-    print_log(Log::new(&log), Session { field: &field, reference: &reference }, &map);
+    let (lengths, map, log) = (load_lengths("lengths.bin"), load("map.bin"), load("samples.bin"));
+    let board = |dump| Board { dump, lengths: &lengths, map: &map };
+    print_record('F', board(&field), Unit::ADC1, Attenuation::DB_11);
+    print_record('F', board(&field), Unit::ADC2, Attenuation::DB_0);
+    print_record('R', board(&reference), Unit::ADC1, Attenuation::DB_11);
+    print_log(Log::new(&log), Session { field: &field, reference: &reference, lengths: &lengths }, &map);
 }
