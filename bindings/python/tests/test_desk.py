@@ -77,13 +77,19 @@ class Desk(unittest.TestCase):
 
     def test_the_gate_s_cases(self):
         data = CRATES / "desk_cases/data"
-        cases = (data / "cases").read_bytes()
+
+        def read(kind, number, missing=b""):
+            return missing if number == MISSING else (data / f"{kind}{number:03}").read_bytes()
+
+        # A case is its files' numbers: two dumps, a map, a log, and in the second list a file of block lengths.
+        old, with_lengths = (data / "cases").read_bytes(), (data / "lengths_cases").read_bytes()
+        cases = [(*old[at : at + 4], MISSING) for at in range(0, len(old), 4)]
+        cases += [with_lengths[at : at + 5] for at in range(0, len(with_lengths), 5)]
         written = []
-        for at in range(0, len(cases), 4):
-            named = zip("ddms", cases[at : at + 4])
-            files = [b"" if number == MISSING else (data / f"{kind}{number:03}").read_bytes() for kind, number in named]
-            written.append(f"case {at // 4}\n" + lines(*files[:2], EIGHTS, *files[2:]))
-        self.assertGreaterEqual(len(written), 102)
+        for number, (field, reference, mapped, log, listed) in enumerate(cases):
+            boards, by = (read("d", field), read("d", reference)), read("l", listed, None)
+            written.append(f"case {number}\n" + lines(*boards, by, read("m", mapped), read("s", log)))
+        self.assertGreaterEqual(len(written), 211)
         self.assertEqual("".join(written), (CRATES / "desk_cases/stdout").read_text())
 
     def test_folders_of_noise(self):
