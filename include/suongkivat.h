@@ -252,7 +252,8 @@ SkvReading skv_s2_skipped_vhigh(uint8_t version, uint8_t unit, uint8_t attenuati
 SkvReading skv_s2_skipped_vinit(uint8_t version, uint8_t unit, uint8_t attenuation);
 
 /* The initial code, and the code at the reference voltage.
-   Refusals 1 (dump), 20 (lengths), 7 (unit or attenuation), the map's, 12 (no code), 5 (as a reading's: no record is told). */
+   Refusals 1 (dump), 20 (lengths), 7 (unit or attenuation), the map's, 12 (no code), 5 (as a reading's: no record is told, so that where
+   record is 0 skv_check_map says whether it is the map's). */
 SkvCode skv_s2_init_code(const uint32_t *dump, size_t dump_len, const uint8_t *lengths, size_t lengths_len, const uint8_t *map,
                          size_t map_len, uint8_t unit, uint8_t attenuation);
 SkvCode skv_s2_cal_code(const uint32_t *dump, size_t dump_len, const uint8_t *lengths, size_t lengths_len, const uint8_t *map,
