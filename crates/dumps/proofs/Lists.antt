@@ -89,14 +89,10 @@ module _ (lengths : List ℕ) where
           one = ⊎-elim inl (λ p. inr (p .0, omega (arith, p .1), p .2)) (l .one);
         }
 
-  -- and what it says of the list
-  module _ (words : ℕ) (e : length lengths ≡ 11) (l : Longest lengths 11 words) where
-    pub longest-above : 8 < words → lengthsRefusal lengths ≡ 20
-    longest-above h =
-        ⊎-elim
-        (λ z. absurd (omega arith))
-        (λ p. lengths-gives 20 (above-eight e (p .0) (omega (arith, p .1)) (omega (arith, p .2))))
-        (l .one)
-
-    pub longest-inside : words ≤ 8 → lengthsRefusal lengths ≡ 0
-    longest-inside h = lengths-gives 0 (good-lengths e (λ block b. omega (arith, l .each block (omega arith))))
+  -- where it is above 8 the list is refused
+  pub longest-above : (n words : ℕ) → n ≤ 11 → length lengths ≡ 11 → Longest lengths n words → 8 < words → lengthsRefusal lengths ≡ 20
+  longest-above n words inside e l h =
+      ⊎-elim
+      (λ z. absurd (omega arith))
+      (λ p. lengths-gives 20 (above-eight e (p .0) (omega (arith, p .1)) (omega (arith, p .2))))
+      (l .one)

@@ -12,14 +12,17 @@ const MOST_WORDS: u8 = 8;
 // The list of a chip whose blocks all have eight words.
 pub const EIGHTS: [u8; 11] = [8, 8, 8, 8, 8, 8, 8, 8, 8, 8, 8];
 
-// The largest of eleven lengths. All of them are looked at, since a list is good nearly always.
+// How many lengths are looked at as one.
+const TOGETHER: usize = 8;
+
+// The largest of the first eight lengths: eight bytes are one look for a processor, and a list is good nearly always.
 fn longest(lengths: &[u8]) -> u8
     requires { ⌜ length (now lengths) ≡ 11 ⌝ }
-    ensures { λ r. ⌜ Longest (now (lengths .entry)) 11 r ⌝ }
+    ensures { λ r. ⌜ Longest (now (lengths .entry)) 8 r ⌝ }
 {
     let mut words = 0;
     let mut block = 0;
-    while block < BLOCKS {
+    while block < TOGETHER {
         if words < lengths[block] {
             words = lengths[block];
         }
@@ -37,6 +40,13 @@ pub fn lengths_refusal(lengths: &[u8]) -> u8
     }
     if MOST_WORDS < longest(lengths) {
         return refusal::LENGTHS;
+    }
+    let mut block = TOGETHER;
+    while block < BLOCKS {
+        if MOST_WORDS < lengths[block] {
+            return refusal::LENGTHS;
+        }
+        block += 1;
     }
     refusal::NONE
 }

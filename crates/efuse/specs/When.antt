@@ -23,6 +23,6 @@ pub data PlaceWhen (lengths : List ℕ) (f : EfuseField) : ℕ → Type 0 where
   good-place : Inside lengths f → PlaceWhen lengths f 0
 
 -- "Field reading alone: 1, 4, 5", and 20 after 1
-pub data ReadWhen (lengths : List ℕ) (dump : List ℕ) (f : EfuseField) : ℕ → Type 0 where
+pub data ReadWhen (lengths dump : List ℕ) (f : EfuseField) : ℕ → Type 0 where
   read-dump : {n : ℕ} → DumpWhen lengths dump n → (n ≡ 0 → ⊥) → ReadWhen lengths dump f n
   read-place : {n : ℕ} → DumpWhen lengths dump 0 → PlaceWhen lengths f n → ReadWhen lengths dump f n

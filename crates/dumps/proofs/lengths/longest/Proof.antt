@@ -10,10 +10,10 @@ use Rattle.dumps.proofs.lengths.longest.Statement.{statement}
 use Rattle.dumps.proofs.lengths.longest.Tie as tie
 
 abbrev Inv-loop : tie.InvT-loop
-Inv-loop lengths words₀ block₀ words block = (block ≤ 11) × Longest lengths block words
+Inv-loop lengths words₀ block₀ words block = (block ≤ 8) × Longest lengths block words
 
 abbrev μ-loop : tie.MeasureT-loop
-μ-loop lengths words₀ block₀ words block = 11 - block
+μ-loop lengths words₀ block₀ words block = 8 - block
 
 loop-holds : tie.Need-loop-holds Inv-loop μ-loop
 loop-holds c = (omega arith, longest-start _)
@@ -43,7 +43,7 @@ loop-again c =
 returns : tie.Need-returns Inv-loop μ-loop
 returns c =
     let l = c .before .loop .inv in
-    let all : c .before .loop .block ≡ 11 = omega (arith, l .0) in
+    let all : c .before .loop .block ≡ 8 = omega (arith, l .0) in
     rw all at (l .1)
 
 pub longest-spec : {M : Type 1} → statement M
