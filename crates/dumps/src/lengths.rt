@@ -43,10 +43,11 @@ pub fn lengths_refusal(lengths: &[u8]) -> u8
     }
     let mut block = TOGETHER;
     while block < BLOCKS {
-        if MOST_WORDS < lengths[block] {
+        if lengths[block] <= MOST_WORDS {
+            block += 1;
+        } else {
             return refusal::LENGTHS;
         }
-        block += 1;
     }
     refusal::NONE
 }

@@ -34,11 +34,6 @@ loop-holds c = (omega arith, λ k h. omega (arith, c .before .longest .ensures .
 shared-slice-read-if3 : tie.Need-shared-slice-read-if3 Inv-loop μ-loop
 shared-slice-read-if3 c = search needs
 
-returns-3 : tie.Need-returns-3 Inv-loop μ-loop
-returns-3 c =
-    let eleven = c .before .before .before .before .before .before .if1 .left in
-    sym (lengths-exactly _ 20 .1 (above-eight eleven _ (search needs) (c .if3 .taken)))
-
 add-block : tie.Need-add-block Inv-loop μ-loop
 add-block c = search needs
 
@@ -48,7 +43,12 @@ loop-less c = search needs
 loop-again : tie.Need-loop-again Inv-loop μ-loop
 loop-again c =
     let lengths : List ℕ = now (c .before .before .before .before .before .before .before .before .args .lengths) in
-    (omega arith, below-more (λ (k : ℕ). wordsOf lengths k ≤ 8) _ (c .before .before .before .loop .inv .1) (c .if3 .left))
+    (omega arith, below-more (λ (k : ℕ). wordsOf lengths k ≤ 8) _ (c .before .before .before .loop .inv .1) (c .if3 .taken))
+
+returns-3 : tie.Need-returns-3 Inv-loop μ-loop
+returns-3 c =
+    let eleven = c .before .before .before .before .before .before .if1 .left in
+    sym (lengths-exactly _ 20 .1 (above-eight eleven _ (search needs) (c .if3 .left)))
 
 returns-4 : tie.Need-returns-4 Inv-loop μ-loop
 returns-4 c =
@@ -66,8 +66,8 @@ lengths-refusal-spec =
     returns-2
     loop-holds
     shared-slice-read-if3
-    returns-3
     add-block
     loop-less
     loop-again
+    returns-3
     returns-4)
