@@ -29,7 +29,7 @@ returns-2 : tie.Need-returns-2 Inv-loop μ-loop
 returns-2 c = sym (longest-above _ 8 _ (omega arith) (c .before .before .if1 .left) (c .before .longest .ensures) (c .if2 .taken))
 
 loop-holds : tie.Need-loop-holds Inv-loop μ-loop
-loop-holds c = (omega arith, λ k h. omega (arith, c .before .longest .ensures .each k h, c .if2 .left))
+loop-holds c = (omega arith, λ k h. omega (arith, c .before .longest .ensures .each k (omega arith), c .if2 .left))
 
 shared-slice-read-if3 : tie.Need-shared-slice-read-if3 Inv-loop μ-loop
 shared-slice-read-if3 c = search needs
