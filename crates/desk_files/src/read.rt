@@ -2,8 +2,8 @@
 // it means eleven eights; one that can't be read is told with the system's reason.
 use dump_file::load::load_dump;
 use dumps::lengths::BLOCKS;
+use fault_words::told::put_fault;
 use faults::fault::File;
-use faults::told::put_fault;
 use files::load::load;
 use files::write::write_all;
 use libc::STDERR_FILENO;

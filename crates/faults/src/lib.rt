@@ -1,3 +1,2 @@
-// What is wrong with one of the desk's files, and the line that tells it.
+// What is wrong with one of the desk's files.
 pub mod fault;
-pub mod told;

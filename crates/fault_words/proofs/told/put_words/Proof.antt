@@ -1,8 +1,8 @@
--- `faults::put_words` meets its contract: in each arm the number is known, or that it is none of them. Assumes nothing.
+-- `fault_words::put_words` meets its contract: in each arm the number is known, or that it is none of them. Assumes nothing.
 use borrow.Author.Tests.{ne-eqb}
 use borrow.Author.Needs.{needs}
-use Rattle.faults.proofs.told.put_words.Statement.{statement}
-use Rattle.faults.proofs.told.put_words.Tie as tie
+use Rattle.fault_words.proofs.told.put_words.Statement.{statement}
+use Rattle.fault_words.proofs.told.put_words.Tie as tie
 
 slice-aggregate-put : tie.Need-slice-aggregate-put
 slice-aggregate-put c = search needs

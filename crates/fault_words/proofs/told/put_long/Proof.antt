@@ -1,10 +1,10 @@
--- `faults::put_long` meets its contract: the place between two words. Assumes nothing.
+-- `fault_words::put_long` meets its contract: the place between two words. Assumes nothing.
 use native.Mathlib.Omega.{arith}
 use Rattle.terms.proofs.Puts.{put-more}
 use Rattle.words.proofs.Rooms.{room-fits}
 use borrow.Author.Needs.{needs}
-use Rattle.faults.proofs.told.put_long.Statement.{statement}
-use Rattle.faults.proofs.told.put_long.Tie as tie
+use Rattle.fault_words.proofs.told.put_long.Statement.{statement}
+use Rattle.fault_words.proofs.told.put_long.Tie as tie
 
 slice-aggregate-put : tie.Need-slice-aggregate-put
 slice-aggregate-put c = search needs

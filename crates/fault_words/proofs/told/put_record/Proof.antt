@@ -1,8 +1,8 @@
--- `faults::put_record` meets its contract: where there is room, what is put is written. Assumes nothing.
+-- `fault_words::put_record` meets its contract: where there is room, what is put is written. Assumes nothing.
 use Rattle.words.proofs.Rooms.{room-fits}
 use borrow.Author.Needs.{needs}
-use Rattle.faults.proofs.told.put_record.Statement.{statement}
-use Rattle.faults.proofs.told.put_record.Tie as tie
+use Rattle.fault_words.proofs.told.put_record.Statement.{statement}
+use Rattle.fault_words.proofs.told.put_record.Tie as tie
 
 put-bad-record-requires : tie.Need-put-bad-record-requires
 put-bad-record-requires c κs = search needs

@@ -1,8 +1,8 @@
 // The words for what is wrong with a file.
-use crate::fault::Fault;
-use crate::fault::File;
-use crate::fault::fault_of;
 use bad_record::told::put_bad_record;
+use faults::fault::Fault;
+use faults::fault::File;
+use faults::fault::fault_of;
 use terms::refusal;
 use terms::refusal::Refusal;
 use words::put::put_decimal;
@@ -12,8 +12,8 @@ ghost use lib.ListN.{length};
 ghost use Rattle.io.specs.Counts.{Counts};
 ghost use Rattle.terms.specs.Put.{Put};
 ghost use Rattle.bad_record.specs.Told.{badText};
 ghost use Rattle.faults.specs.Fault.{faultOf};
-ghost use Rattle.faults.specs.Told.{nameOf, wordsOf, longOf, endOf, faultText};
+ghost use Rattle.fault_words.specs.Told.{nameOf, wordsOf, longOf, endOf, faultText};
 
 // A word, at a place with room for it.
 fn put(out: &mut [u8], at: usize, word: &[u8]) -> usize

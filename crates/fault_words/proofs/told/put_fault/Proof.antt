@@ -1,9 +1,9 @@
--- `faults::put_fault` meets its contract: the lent bytes have room for any line. Assumes nothing.
+-- `fault_words::put_fault` meets its contract: the lent bytes have room for any line. Assumes nothing.
 use native.Mathlib.Omega.{arith}
 use Rattle.terms.proofs.Counted.{counted}
 use borrow.Author.Needs.{needs}
-use Rattle.faults.proofs.told.put_fault.Statement.{statement}
-use Rattle.faults.proofs.told.put_fault.Tie as tie
+use Rattle.fault_words.proofs.told.put_fault.Statement.{statement}
+use Rattle.fault_words.proofs.told.put_fault.Tie as tie
 
 fault-of-requires : tie.Need-fault-of-requires
 fault-of-requires c κs = search needs

@@ -1,9 +1,9 @@
--- `faults::put_line` meets its contract: in each arm the fault is known, and its texts are written one after the other. Assumes nothing.
+-- `fault_words::put_line` meets its contract: in each arm the fault is known, and its texts are written one after the other. Assumes nothing.
 use Rattle.terms.proofs.Puts.{put-none, put-more}
-use Rattle.faults.specs.Told.{faultText}
+use Rattle.fault_words.specs.Told.{faultText}
 use borrow.Author.Needs.{needs}
-use Rattle.faults.proofs.told.put_line.Statement.{statement}
-use Rattle.faults.proofs.told.put_line.Tie as tie
+use Rattle.fault_words.proofs.told.put_line.Statement.{statement}
+use Rattle.fault_words.proofs.told.put_line.Tie as tie
 
 enum-told : tie.Need-enum-told
 enum-told c = search needs

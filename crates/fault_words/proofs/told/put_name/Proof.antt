@@ -1,8 +1,8 @@
--- `faults::put_name` meets its contract: in each arm the file is known. Assumes nothing.
+-- `fault_words::put_name` meets its contract: in each arm the file is known. Assumes nothing.
 use native.Mathlib.Omega.{arith}
 use borrow.Author.Needs.{needs}
-use Rattle.faults.proofs.told.put_name.Statement.{statement}
-use Rattle.faults.proofs.told.put_name.Tie as tie
+use Rattle.fault_words.proofs.told.put_name.Statement.{statement}
+use Rattle.fault_words.proofs.told.put_name.Tie as tie
 
 enum-told : tie.Need-enum-told
 enum-told c = search needs

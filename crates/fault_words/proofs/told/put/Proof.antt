@@ -1,8 +1,8 @@
--- `faults::put` meets its contract: where there is room, a word that is put is written. Assumes nothing.
+-- `fault_words::put` meets its contract: where there is room, a word that is put is written. Assumes nothing.
 use Rattle.words.proofs.Rooms.{room-fits}
 use borrow.Author.Needs.{needs}
-use Rattle.faults.proofs.told.put.Statement.{statement}
-use Rattle.faults.proofs.told.put.Tie as tie
+use Rattle.fault_words.proofs.told.put.Statement.{statement}
+use Rattle.fault_words.proofs.told.put.Tie as tie
 
 put-word-requires : tie.Need-put-word-requires
 put-word-requires c κs = search needs
