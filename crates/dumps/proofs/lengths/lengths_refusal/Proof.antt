@@ -1,6 +1,6 @@
 -- `dumps::lengths_refusal` meets its contract: the first eight are at most 8 exactly if the largest of them is, and at each turn the blocks
 -- before are. Assumes nothing.
-use mathlib.Core.Path.{_≡_, sym}
+use mathlib.Core.Path.{sym}
 use mathlib.Core.List.{List}
 use Prim.Native.Nat.{ℕ, _-_, _≤_, _<_}
 use native.Mathlib.Omega.{arith}

@@ -1,5 +1,4 @@
 -- `fault_words::put_name` meets its contract: in each arm the file is known. Assumes nothing.
-use native.Mathlib.Omega.{arith}
 use borrow.Author.Needs.{needs}
 use Rattle.fault_words.proofs.told.put_name.Statement.{statement}
 use Rattle.fault_words.proofs.told.put_name.Tie as tie
