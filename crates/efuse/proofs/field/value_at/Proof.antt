@@ -17,21 +17,22 @@ use Rattle.efuse.proofs.field.value_at.Tie as tie
 returns : tie.Need-returns
 returns c = sym (value-short _ _ _ (c .if1 .taken))
 
-words-of-requires : tie.Need-words-of-requires
-words-of-requires c κs = search needs
-
-cast-if2 : tie.Need-cast-if2
-cast-if2 c = search needs
-
-returns-2 : tie.Need-returns-2
-returns-2 c = sym (value-long _ _ _ (c .before .before .if1 .left) (rw (c .before .words-of .ensures) at (c .if2 .taken)))
-
 place-refusal-requires : tie.Need-place-refusal-requires
 place-refusal-requires c κs = search needs
 
+returns-2 : tie.Need-returns-2
+returns-2 c = sym (value-outside _ _ _ (λ e. c .if2 .taken (c .before .place-refusal .ensures ∙ e)))
+
+words-of-requires : tie.Need-words-of-requires
+words-of-requires c κs = search needs
+
+cast-if3 : tie.Need-cast-if3
+cast-if3 c = search needs
+
 returns-3 : tie.Need-returns-3
 returns-3 c =
-    sym (value-outside _ _ _ (λ e. c .if3 .taken (c .before .place-refusal .ensures ∙ e)))
+    let own = c .before .words-of .ensures in
+    sym (value-long _ _ _ (c .before .before .before .before .if1 .left) (rw own at (c .if3 .taken)))
 
 smaller-requires : tie.Need-smaller-requires
 smaller-requires c κs = search needs
@@ -50,11 +51,11 @@ module _ (c : tie.Else3) where
   whole : length dump ≡ 88
   whole = c .before .before .before .before .if1 .left
 
-  own : wordsOf lengths (field .block) ≤ 8
-  own = rw (c .before .before .before .words-of .ensures) at (c .before .before .if2 .left)
-
   inside : placeRefusal lengths field ≡ 0
-  inside = sym (c .before .place-refusal .ensures) ∙ c .if3 .left
+  inside = sym (c .before .before .before .place-refusal .ensures) ∙ c .before .before .if2 .left
+
+  own : wordsOf lengths (field .block) ≤ 8
+  own = rw (c .before .words-of .ensures) at (c .if3 .left)
 
 bits-requires : tie.Need-bits-requires
 bits-requires c κs =
@@ -72,10 +73,10 @@ value-at-spec =
     tie.close
     (tie.spec
     returns
-    words-of-requires
-    cast-if2
-    returns-2
     place-refusal-requires
+    returns-2
+    words-of-requires
+    cast-if3
     returns-3
     smaller-requires
     bits-requires
