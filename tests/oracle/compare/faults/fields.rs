@@ -36,6 +36,11 @@ pub fn shift_by_32(dump: &[u32], lengths: &[u8], field: Field) -> Told<u32> {
     if told.refused.number() == 0 && whole { good(told.value | next.value) } else { told }
 }
 
+pub fn before_last_word(dump: &[u32], lengths: &[u8], field: Field) -> Told<u32> {
+    let last = field.block == 10 && (224..=255).contains(&field.bit_start);
+    (PROVED.read_field_u8)(dump, lengths, Field { bit_start: field.bit_start - 32 * u16::from(last), ..field })
+}
+
 pub fn longer_dump(dump: &[u32], lengths: &[u8], field: Field) -> Told<u32> {
     (PROVED.read_field_u8)(&dump[..dump.len().min(88)], lengths, field)
 }

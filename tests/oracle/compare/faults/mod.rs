@@ -43,6 +43,7 @@ faults! {
         "5 is asked for before 4": read_field_u16 = fields::place_before_block,
         "a field stops at its word's edge": read_field_u32 = fields::stops_at_word,
         "a whole word has the next one's bits too, by a shift of 32": read_field_u32 = fields::shift_by_32,
+        "a field that begins in the dump's last word is read from the one before": read_field_u8 = fields::before_last_word,
         "a longer dump is taken": read_field_u8 = fields::longer_dump,
         "a refusal carries a value": read_field_u8 = fields::refusal_with_value,
         "4 tells the block as a record": read_field_u16 = fields::block_as_record,
