@@ -31,13 +31,13 @@ module _ {A B : Type 0} {refusal : A → Refusal} {value : A → B} {zeros : B} 
       zero_or why.number
       (λ e.
       record {
-        refusal_is = ap refusal (by_number_good _ _ _ e) ∙ paper.good-refusal v ∙ sym (none e);
-        value_is = ap value (by_number_good _ _ _ e) ∙ paper.good-value v ∙ sym (by_number_good _ _ _ e);
+        refusal_is = ap refusal (by_number_good _ _ _ e) ∙ paper.good_refusal v ∙ sym (none e);
+        value_is = ap value (by_number_good _ _ _ e) ∙ paper.good_value v ∙ sym (by_number_good _ _ _ e);
       })
       (λ h.
       record {
-        refusal_is = ap refusal (by_number_refused _ _ _ h) ∙ paper.refused-refusal why;
-        value_is = ap value (by_number_refused _ _ _ h) ∙ paper.refused-value why ∙ sym (by_number_refused _ _ _ h);
+        refusal_is = ap refusal (by_number_refused _ _ _ h) ∙ paper.refused_refusal why;
+        value_is = ap value (by_number_refused _ _ _ h) ∙ paper.refused_value why ∙ sym (by_number_refused _ _ _ h);
       })
 
   pub says : (n : ℕ) (v : B) → Says refusal value zeros (answered n (good v) refused) (plain n) v

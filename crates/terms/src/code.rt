@@ -1,7 +1,7 @@
 // A code of the converter, or why there is none.
 use crate::refusal::Refusal;
 
-#[derive(Drop)]
+#[derive(Clone, Copy)]
 pub enum Code {
     Value(u16),
     Refused(Refusal),

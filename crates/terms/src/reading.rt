@@ -1,7 +1,7 @@
 // A reading with its sign, or why there is none.
 use crate::refusal::Refusal;
 
-#[derive(Drop)]
+#[derive(Clone, Copy)]
 pub enum Reading {
     Value(i32),
     Refused(Refusal),

@@ -2,7 +2,7 @@
 use crate::quantity::Millivolt;
 use crate::refusal::Refusal;
 
-#[derive(Drop)]
+#[derive(Clone, Copy)]
 pub enum Voltage {
     Value(Millivolt),
     Refused(Refusal),
