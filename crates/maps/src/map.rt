@@ -14,14 +14,14 @@ use terms::refusal::{Outcome, Refusal};
 const RECORD_BYTES: usize = 8;
 
 // Ids that rise from a first one on.
-#[derive(Drop)]
+#[derive(Clone, Copy)]
 pub(crate) struct Ids {
     pub(crate) first: usize,
     pub(crate) len: usize,
 }
 
 // The least and the largest bit count that a field may have.
-#[derive(Drop)]
+#[derive(Clone, Copy)]
 pub(crate) struct BitCounts {
     pub(crate) min: u16,
     pub(crate) max: u16,
