@@ -25,7 +25,7 @@ const LUT_VREF_HIGH: u32 = 1200;
 const LUT_VREF_SPAN: u32 = LUT_VREF_HIGH - LUT_VREF_LOW;
 
 // A sum at a count, and what each count more adds to it. A voltage is a quotient of such a sum, which has the rounding in it.
-#[derive(Drop)]
+#[derive(Clone, Copy)]
 pub struct Slope {
     pub sum: u32,
     pub rise: u32,

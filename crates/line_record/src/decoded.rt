@@ -6,7 +6,7 @@ use crate::record::LineRecord;
 use terms::refusal;
 use terms::refusal::Refusal;
 
-#[derive(Drop)]
+#[derive(Clone, Copy)]
 pub enum Decoded {
     Record(LineRecord),
     Refused(Refusal),

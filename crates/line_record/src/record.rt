@@ -16,14 +16,14 @@ const SMALLEST_VREF: u32 = 995;
 const LUT_ATTEN: u8 = 3;
 
 // Where a and b of a record come from.
-#[derive(Drop)]
+#[derive(Clone, Copy)]
 pub enum Source {
     TwoPoint,
     Vref,
 }
 
 // The line's coefficients, Vref in millivolts, the unit and the attenuation, and the source.
-#[derive(Drop)]
+#[derive(Clone, Copy)]
 pub struct LineRecord {
     pub coeff_a: u32,
     pub coeff_b: u32,

@@ -1,2 +1,4 @@
 // The lookup's tables.
+#![tactic(auto)]
+
 pub mod row;

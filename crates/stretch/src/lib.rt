@@ -1,3 +1,5 @@
 // The walking fill: the answers of a stretch of counts, by additions.
+#![tactic(auto)]
+
 pub mod fill;
 mod ramp;

@@ -19,14 +19,14 @@ pub const LARGEST_VREF: u32 = 1205;
 const HALF: u64 = 4294967296;
 
 // A line's coefficients.
-#[derive(Drop)]
+#[derive(Clone, Copy)]
 pub struct Coefficients {
     pub a: u32,
     pub b: u32,
 }
 
 // A unit's scale and offset at an attenuation.
-#[derive(Drop)]
+#[derive(Clone, Copy)]
 pub struct Atten(pub u32, pub u32);
 
 // Two numbers as one, whose halves they are.
