@@ -15,7 +15,7 @@ const TP_HIGH_VOLTAGE: u32 = 850;
 const DELTA_V: u32 = TP_HIGH_VOLTAGE - TP_LOW_VOLTAGE;
 
 // Where a and b come from: two points, with the raw bits of the unit's low and high codes, or Vref.
-#[derive(Drop)]
+#[derive(Clone, Copy)]
 pub(crate) enum Basis {
     TwoPoint(u32, u32),
     Vref,

@@ -28,7 +28,7 @@ const ADC1_TP_HIGH: usize = 4;
 const ADC2_TP_HIGH: usize = 5;
 
 // What a record is made from: where a and b come from with the raw codes, the raw bits of ADC_VREF, and a and b.
-#[derive(Drop)]
+#[derive(Clone, Copy)]
 pub(crate) struct Found {
     pub(crate) basis: Basis,
     pub(crate) vref: u32,

@@ -12,7 +12,7 @@ use terms::refusal::Refusal;
 const SPI_BOOT_CRYPT_CNT: usize = 1;
 
 // Whether flash encryption is on, or why that isn't known.
-#[derive(Drop)]
+#[derive(Clone, Copy)]
 pub enum FlashEncryption {
     Value(bool),
     Refused(Refusal),

@@ -12,7 +12,7 @@ use terms::refusal::Refusal;
 pub const BLK_VERSION_MINOR: usize = 0;
 
 // A version, or why there is none.
-#[derive(Drop)]
+#[derive(Clone, Copy)]
 pub enum Version {
     Value(u8),
     Refused(Refusal),

@@ -22,9 +22,9 @@ module _ (lengths dump map : List ℕ) (unit atten : ℕ) (param : RtcCalibParam
       let p = code_accepted lengths dump map unit atten param z in
       code_table lengths dump map unit atten param p.0 ∙ ap plain p.1
 
-  pub code-says :
+  pub code_says :
       Says refusal_of value_of 0
       (code_of lengths dump map unit atten param) (code_told lengths dump map unit atten param)
       (nat_abs (reading_of dump false (tag_of 2 unit atten param)))
   unfolding code_of
-  code-says = told_says code_paper _ none _
+  code_says = told_says code_paper _ none _

@@ -26,7 +26,7 @@ use Rattle.s2_codes.specs.Code.{version_refusal, code_told, code_of}
 use Rattle.s2_codes.specs.When.{VersionWhen, before, bad_version, good_version, CodeWhen, before_table, of_table}
 use Rattle.s2_codes.proofs.Codes.{code_before, code_table}
 use Rattle.s2_codes.proofs.Exactly.{version_exactly}
-use Rattle.s2_codes.proofs.Says.{code-says}
+use Rattle.s2_codes.proofs.Says.{code_says}
 
 module _ (lengths dump map : List ℕ) (unit atten : ℕ) where
   version_of_map : (n : ℕ) → VersionWhen lengths dump map unit atten n → of_record n ≡ true → MapWhen lengths S2 map n
@@ -65,5 +65,5 @@ module _ (lengths dump map : List ℕ) (unit atten : ℕ) where
 
     pub code_told_lem : Exactly (refusal_of (code_of lengths dump map unit atten param)) (CodeWhen lengths dump map unit atten param)
     code_told_lem =
-        rw (code-says lengths dump map unit atten param).refusal_is
+        rw (code_says lengths dump map unit atten param).refusal_is
         (λ why. (λ e. subst (CodeWhen lengths dump map unit atten param) e given, gives why))

@@ -22,13 +22,13 @@ module _ (tag : ℕ) (r : Rule tag) where
   multiplier_fits = subst (SFits w16) r.factor (record { sfits = omega (arith, r.small) })
 
   pub base_fits : SFits w16 (base (entry_at tag))
-  base_fits = fits_by w16 (base (entry_at tag)) (omega (arith, r.base-up)) (omega (arith, r.base-dn))
+  base_fits = fits_by w16 (base (entry_at tag)) (omega (arith, r.base_up)) (omega (arith, r.base_dn))
 
   module _ (dump : List ℕ) where
-    pub product-fits :
+    pub product_fits :
         SFits w32 (sign_magnitude (bit_length (entry_at tag)) (bits_of dump 2 (begin_bit (entry_at tag)) (bit_length (entry_at tag)))
         *ℤ multiplier (entry_at tag))
-    product-fits =
+    product_fits =
         let n = product_near tag r dump in
         let s = span_small tag r in
         fits_by w32 _ (omega (arith, n.high)) (omega (arith, n.low))
@@ -40,8 +40,8 @@ module _ (tag : ℕ) (r : Rule tag) where
         let s = span_small tag r in
         let sum = sum_is term (base (entry_at tag)) in
         fits_by w32 (term +ℤ base (entry_at tag))
-        (omega (arith, r.base-up, up_le (term +ℤ base (entry_at tag)) _ _ sum))
-        (omega (arith, r.base-dn, dn_le (term +ℤ base (entry_at tag)) _ _ sum))
+        (omega (arith, r.base_up, up_le (term +ℤ base (entry_at tag)) _ _ sum))
+        (omega (arith, r.base_dn, dn_le (term +ℤ base (entry_at tag)) _ _ sum))
 
 module _ (dump : List ℕ) (skip : Bool) (tag : ℕ) (h : tag < 33) where
   pub reading_small : up (reading_of dump skip tag) < 2 ^ 16

@@ -3,7 +3,7 @@ ghost use Rattle.std.specs.Prelude.{◌≡◌, ◌<◌};
 ghost use Rattle.s2_readings.specs.Table.{entry_at};
 
 // A tag's entry: the first bit and the length of its field in block 2, its multiplier, its base, and the tag that it depends on.
-#[derive(Drop)]
+#[derive(Clone, Copy)]
 pub(crate) struct RtcCalibEntry(
     pub(crate) u16,
     pub(crate) u8,

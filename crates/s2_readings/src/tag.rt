@@ -3,7 +3,7 @@ ghost use Rattle.std.specs.Prelude.{◌≡◌, ◌≤◌};
 ghost use Rattle.s2_readings.specs.Tag.{by_version, first_tag, tag_of};
 
 // What is read of the table.
-#[derive(Drop)]
+#[derive(Clone, Copy)]
 pub enum RtcCalibParam {
     // Low-voltage reading, of version 1.
     Vlow,

@@ -1,3 +1,5 @@
 // Sample logs: a log's next sample, and a sample's answer.
+#![tactic(auto)]
+
 pub mod answer;
 pub mod log;
