@@ -28,9 +28,9 @@ fn same_answer(case: &[u8], line: u16, expected: u16) -> bool {
 // An answer and a signed step of one byte. Steps of a table lead from answer to answer, so nothing wraps that shouldn't.
 fn stepped(from: u16, step: u8) -> u16 {
     if step < 128 {
-        return std::num::wrapping_add_u16(from, step as u16);
+        return from.wrapping_add(step as u16);
     }
-    std::num::wrapping_sub_u16(from, 256 - step as u16)
+    from.wrapping_sub(256 - step as u16)
 }
 
 // Whether a curve has the case's answer at every line answer.

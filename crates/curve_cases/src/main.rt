@@ -1,9 +1,12 @@
 // Replays the lists of data/ with the library's curve correction; tests/oracle/README.md has their formats.
+#![tactic(auto)]
+
 mod curves;
 
 use replay::Layout;
+use std::rt::Files;
 
-#[derive(Drop)]
+#[derive(Clone, Copy)]
 enum List {
     Tables,
     Single,
@@ -33,16 +36,16 @@ fn same(list: List, case: &[u8; replay::CASE]) -> bool {
 }
 
 // Compares a list to its end.
-fn replay_list(list: List, name: &[u8]) {
-    let mut run = replay::open(name, layout_of(list));
+fn replay_list<R: Files + Print>(rt: &R, list: List, name: &[u8]) {
+    let mut run = replay::open(rt, name, layout_of(list));
     while 0 < run.left {
         let same = same(list, &run.case);
-        run = replay::step(name, run, same);
+        run = replay::step(rt, name, run, same);
     }
-    replay::close(name, run);
+    replay::close(rt, name, run);
 }
 
-fn main() {
-    replay_list(List::Tables, b"tables");
-    replay_list(List::Single, b"single");
+fn main(rt: HostRuntime) {
+    replay_list(&rt, List::Tables, b"tables");
+    replay_list(&rt, List::Single, b"single");
 }

@@ -1,19 +1,28 @@
 // The desk program: reads field.bin, reference.bin, lengths.bin, map.bin and samples.bin of the current folder, and writes a line for each
 // sample.
 // What is wrong is told on standard error.
-use libc::STDOUT_FILENO;
+#![tactic(auto)]
 
-fn main() {
+use files::told;
+use files::write::settle_output;
+
+fn main(rt: HostRuntime) {
+    let mut errors = rt.stderr();
     session::desk::run(
+        &rt,
         b"field.bin",
         b"reference.bin",
         b"lengths.bin",
         b"map.bin",
         b"samples.bin",
-        STDOUT_FILENO,
+        &mut rt.stdout(),
+        &mut errors,
     );
-    // some systems tell only here that what was written didn't arrive; an output that was closed from the start is told by its write
-    if libc::close(STDOUT_FILENO) < 0 && os::errno() != libc::EBADF {
-        os::fail(b"standard output: it can't be closed, so lines may be lost");
+    if let Err(error) = settle_output(&rt) {
+        told::tell(
+            &mut errors,
+            b"standard output: it can't be closed, so lines may be lost",
+            &error,
+        );
     }
 }

@@ -1,5 +1,9 @@
 // Runs the desk on the files of each case of data/, after a line with the case's number; tests/oracle/README.md has their formats.
-use libc::STDOUT_FILENO;
+#![tactic(auto)]
+
+use files::load::open_named;
+use files::read::read_full;
+use std::io::Read;
 
 // The numbers of a case's files: two dumps, a map and a log, and, in the list of cases that have it, a file of block lengths.
 const FILES: usize = 5;
@@ -18,62 +22,63 @@ fn name(kind: u8, number: u8) -> [u8; 4] {
     [kind, digit(number / 100), digit(number / 10), digit(number)]
 }
 
-fn write_heading(number: u64) {
-    io::write_all(STDOUT_FILENO, b"case ");
-    io::print_decimal(STDOUT_FILENO, number);
-    io::write_all(STDOUT_FILENO, b"\n");
+// That it can't be written isn't told: then the output isn't the expected one.
+fn write_heading(rt: &HostRuntime, number: u64) {
+    let _ = println!(rt; "case {number}");
 }
 
 // Runs the desk on the files that a case names by their numbers.
-fn run_case(case: &[u8; FILES]) {
+fn run_case(rt: &HostRuntime, case: &[u8; FILES]) {
     session::desk::run(
+        rt,
         &name(b'd', case[0]),
         &name(b'd', case[1]),
         &name(b'l', case[4]),
         &name(b'm', case[2]),
         &name(b's', case[3]),
-        STDOUT_FILENO,
+        &mut rt.stdout(),
+        &mut rt.stderr(),
     );
 }
 
 // Reads the numbers of so many files, at most all, and tells whether there were so many.
-fn read_numbers(cases: i32, files: usize, case: &mut [u8]) -> bool {
+fn read_numbers<F: Read>(cases: &mut F, files: usize, case: &mut [u8]) -> bool {
     if case.len() < files {
         return false;
     }
-    io::read_full(cases, &mut case[0..files]) == files
+    read_full(cases, &mut case[0..files]).len == files
 }
 
 // Runs the next case, which has the numbers of so many files, and tells whether there was one.
-fn run_next(cases: i32, files: usize, number: u64) -> bool {
+fn run_next<F: Read>(rt: &HostRuntime, cases: &mut F, files: usize, number: u64) -> bool {
     let mut case = [MISSING; FILES];
     if !read_numbers(cases, files, &mut case) {
         return false;
     }
-    write_heading(number);
-    run_case(&case);
+    write_heading(rt, number);
+    run_case(rt, &case);
     true
 }
 
 // Runs the cases to their end, numbered from the first on, and gives the number after theirs.
-fn run_cases(cases: i32, files: usize, first: u64) -> u64 {
+fn run_cases<F: Read>(rt: &HostRuntime, cases: &mut F, files: usize, first: u64) -> u64 {
     for number in first..u64::MAX {
-        if !run_next(cases, files, number) {
+        if !run_next(rt, cases, files, number) {
             return number;
         }
     }
     u64::MAX
 }
 
-// Runs the cases of a list, each of which has the numbers of so many files.
-fn run_list(name: &[u8], files: usize, first: u64) -> u64 {
-    let cases = os::open_read(name);
-    let number = run_cases(cases, files, first);
-    libc::close(cases);
-    number
+// Runs the cases of a list, each of which has the numbers of so many files. A list that can't be opened has none.
+fn run_list(rt: &HostRuntime, name: &[u8], files: usize, first: u64) -> u64 {
+    match open_named(rt, name) {
+        Ok(mut cases) => run_cases(rt, &mut cases, files, first),
+        Err(_) => first,
+    }
 }
 
-fn main() {
-    let number = run_list(b"cases", FILES_WITHOUT_LENGTHS, 0);
-    run_list(b"lengths_cases", FILES, number);
+fn main(rt: HostRuntime) {
+    let number = run_list(&rt, b"cases", FILES_WITHOUT_LENGTHS, 0);
+    run_list(&rt, b"lengths_cases", FILES, number);
 }

@@ -10,7 +10,8 @@ use fault_words::told::put_fault;
 use faults::fault::File;
 use files::load::load;
 use files::write::write_all;
-use libc::STDERR_FILENO;
+use std::io::Write;
+use std::rt::Files;
 
 // Eleven eights, in the room for a list.
 const NO_FILE: [u8; 12] = [8, 8, 8, 8, 8, 8, 8, 8, 8, 8, 8, 0];
@@ -39,24 +40,37 @@ pub struct Lengths {
     pub unread: bool,
 }
 
-// Tells on standard error what is wrong with a file, by its bytes; with the map, by the list of block lengths.
-pub(crate) fn tell(file: File, missing: bool, lengths: &[u8], bytes: &[u8]) {
+// Tells what is wrong with a file, by its bytes; with the map, by the list of block lengths.
+pub(crate) fn tell<W: Write>(
+    errors: &mut W,
+    file: File,
+    missing: bool,
+    lengths: &[u8],
+    bytes: &[u8],
+) {
     let mut line = [0u8; 160];
     let len = put_fault(&mut line, file, missing, lengths, bytes);
-    write_all(STDERR_FILENO, &line[..len]);
+    // where even this can't be written, nobody is left to be told
+    let _ = write_all(errors, &line[..len]);
 }
 
 // Reads a dump file, and tells what is wrong with it.
-fn read_dump(path: &[u8], file: File, unread: &[u8]) -> Dump
+fn read_dump<R: Files, W: Write>(
+    rt: &R,
+    path: &[u8],
+    file: File,
+    unread: &[u8],
+    errors: &mut W,
+) -> Dump
     ensures { IsPrefixLen result.len result.words }
 {
     let mut bytes = [0u8; 353];
-    let loaded = load(path, &mut bytes, unread);
+    let loaded = load(rt, path, &mut bytes, unread, errors);
     let read = loaded.len;
     let mut words = [0u32; 88];
     let len = load_dump(&bytes[..read], &mut words);
     if !loaded.unread {
-        tell(file, loaded.missing, b"", &bytes[..read]);
+        tell(errors, file, loaded.missing, b"", &bytes[..read]);
     }
     Dump {
         words,
@@ -66,24 +80,28 @@ fn read_dump(path: &[u8], file: File, unread: &[u8]) -> Dump
 }
 
 // Reads the field board's dump.
-pub fn read_field(path: &[u8]) -> Dump
+pub fn read_field<R: Files, W: Write>(rt: &R, path: &[u8], errors: &mut W) -> Dump
     ensures { IsPrefixLen result.len result.words }
 {
     read_dump(
+        rt,
         path,
         File::Field,
         b"field.bin: it can't be read, so the desk stops here",
+        errors,
     )
 }
 
 // Reads the reference board's dump.
-pub fn read_reference(path: &[u8]) -> Dump
+pub fn read_reference<R: Files, W: Write>(rt: &R, path: &[u8], errors: &mut W) -> Dump
     ensures { IsPrefixLen result.len result.words }
 {
     read_dump(
+        rt,
         path,
         File::Reference,
         b"reference.bin: it can't be read, so the desk stops here",
+        errors,
     )
 }
 
@@ -102,35 +120,39 @@ fn list_of(missing: bool, bytes: [u8; 12], len: usize, unread: bool) -> Lengths
 }
 
 // Reads the list of block lengths.
-pub fn read_lengths(path: &[u8]) -> Lengths
+pub fn read_lengths<R: Files, W: Write>(rt: &R, path: &[u8], errors: &mut W) -> Lengths
     ensures { IsPrefixLen result.len result.bytes }
 {
     let mut bytes = [0u8; 12];
     let loaded = load(
+        rt,
         path,
         &mut bytes,
         b"lengths.bin: it can't be read, so the desk stops here",
+        errors,
     );
     let len = loaded.len;
     if !loaded.unread {
-        tell(File::Lengths, loaded.missing, b"", &bytes[..len]);
+        tell(errors, File::Lengths, loaded.missing, b"", &bytes[..len]);
     }
     list_of(loaded.missing, bytes, len, loaded.unread)
 }
 
 // Reads the map, which goes by that list.
-pub fn read_map(path: &[u8], lengths: &[u8]) -> Map
+pub fn read_map<R: Files, W: Write>(rt: &R, path: &[u8], lengths: &[u8], errors: &mut W) -> Map
     ensures { IsPrefixLen result.len result.bytes }
 {
     let mut bytes = [0u8; 49];
     let loaded = load(
+        rt,
         path,
         &mut bytes,
         b"map.bin: it can't be read, so the desk stops here",
+        errors,
     );
     let len = loaded.len;
     if !loaded.unread {
-        tell(File::Map, loaded.missing, lengths, &bytes[..len]);
+        tell(errors, File::Map, loaded.missing, lengths, &bytes[..len]);
     }
     Map {
         bytes,

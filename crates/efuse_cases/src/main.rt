@@ -1,11 +1,14 @@
 // Replays the lists of data/ with the library's field reading, views and map checking; tests/oracle/README.md has their formats.
+#![tactic(auto)]
+
 mod fields;
 mod map_checks;
 mod views;
 
 use replay::{Layout, lengths};
+use std::rt::Files;
 
-#[derive(Drop)]
+#[derive(Clone, Copy)]
 enum List {
     Fields,
     Bytes,
@@ -79,23 +82,23 @@ fn same<'a>(
 }
 
 // Compares a list to its end.
-fn replay_list(list: List, name: &[u8], good_maps: &[u8]) {
-    let mut run = replay::open(name, layout_of(list));
+fn replay_list<R: Files + Print>(rt: &R, list: List, name: &[u8], good_maps: &[u8]) {
+    let mut run = replay::open(rt, name, layout_of(list));
     while 0 < run.left {
         let same = same(list, &run.words, &run.reference, &run.case, good_maps);
-        run = replay::step(name, run, same);
+        run = replay::step(rt, name, run, same);
     }
-    replay::close(name, run);
+    replay::close(rt, name, run);
 }
 
-fn main() {
+fn main(rt: HostRuntime) {
     let mut good_maps = [0u8; 1536];
-    replay::read(b"good_maps", &mut good_maps);
-    replay_list(List::Fields, b"fields", &good_maps);
-    replay_list(List::Bytes, b"bytes", &good_maps);
-    replay_list(List::Maps, b"maps", &good_maps);
-    replay_list(List::ShortFields, b"short_fields", &good_maps);
-    replay_list(List::ShortBytes, b"short_bytes", &good_maps);
-    replay_list(List::ShortMaps, b"short_maps", &good_maps);
-    replay_list(List::Views, b"views", &good_maps);
+    replay::read(&rt, b"good_maps", &mut good_maps);
+    replay_list(&rt, List::Fields, b"fields", &good_maps);
+    replay_list(&rt, List::Bytes, b"bytes", &good_maps);
+    replay_list(&rt, List::Maps, b"maps", &good_maps);
+    replay_list(&rt, List::ShortFields, b"short_fields", &good_maps);
+    replay_list(&rt, List::ShortBytes, b"short_bytes", &good_maps);
+    replay_list(&rt, List::ShortMaps, b"short_maps", &good_maps);
+    replay_list(&rt, List::Views, b"views", &good_maps);
 }

@@ -1,9 +1,12 @@
 // Replays the lists of data/ with the library's C6 calibration; tests/oracle/README.md has their formats.
+#![tactic(auto)]
+
 mod calls;
 
 use replay::{Layout, lengths};
+use std::rt::Files;
 
-#[derive(Drop)]
+#[derive(Clone, Copy)]
 enum List {
     Calls,
     ShortCalls,
@@ -39,18 +42,18 @@ fn same<'a>(
 }
 
 // Compares a list to its end.
-fn replay_list(list: List, name: &[u8], map: &[u8]) {
-    let mut run = replay::open(name, layout_of(list));
+fn replay_list<R: Files + Print>(rt: &R, list: List, name: &[u8], map: &[u8]) {
+    let mut run = replay::open(rt, name, layout_of(list));
     while 0 < run.left {
         let same = same(list, map, &run.words, &run.case);
-        run = replay::step(name, run, same);
+        run = replay::step(rt, name, run, same);
     }
-    replay::close(name, run);
+    replay::close(rt, name, run);
 }
 
-fn main() {
+fn main(rt: HostRuntime) {
     let mut map = [0u8; 120];
-    replay::read(b"map", &mut map);
-    replay_list(List::Calls, b"calls", &map);
-    replay_list(List::ShortCalls, b"short_calls", &map);
+    replay::read(&rt, b"map", &mut map);
+    replay_list(&rt, List::Calls, b"calls", &map);
+    replay_list(&rt, List::ShortCalls, b"short_calls", &map);
 }

@@ -1,9 +1,12 @@
 // Replays the lists of data/ with the library's S2 calibration and flash encryption; tests/oracle/README.md has their formats.
+#![tactic(auto)]
+
 mod calls;
 
 use replay::{Layout, lengths};
+use std::rt::Files;
 
-#[derive(Drop)]
+#[derive(Clone, Copy)]
 enum List {
     Calls,
     ShortCalls,
@@ -34,16 +37,16 @@ fn same<'a>(list: List, words: &'a [u32; replay::WORDS], case: &'a [u8; replay::
 }
 
 // Compares a list to its end.
-fn replay_list(list: List, name: &[u8]) {
-    let mut run = replay::open(name, layout_of(list));
+fn replay_list<R: Files + Print>(rt: &R, list: List, name: &[u8]) {
+    let mut run = replay::open(rt, name, layout_of(list));
     while 0 < run.left {
         let same = same(list, &run.words, &run.case);
-        run = replay::step(name, run, same);
+        run = replay::step(rt, name, run, same);
     }
-    replay::close(name, run);
+    replay::close(rt, name, run);
 }
 
-fn main() {
-    replay_list(List::Calls, b"calls");
-    replay_list(List::ShortCalls, b"short_calls");
+fn main(rt: HostRuntime) {
+    replay_list(&rt, List::Calls, b"calls");
+    replay_list(&rt, List::ShortCalls, b"short_calls");
 }

@@ -2,11 +2,15 @@
 ghost use Rattle.io.specs.Counts.{IsPrefixLen};
 
 use crate::read::read_full;
+use crate::told;
+use std::fs;
+use std::io::{Error, ErrorKind, Read, Write};
+use std::rt::Files;
 
-// What a name gave: whether there is a file of that name, its descriptor, and whether it couldn't be opened, which has been told.
+// What a name gave: the file, open; or whether there is no file of that name, and whether it couldn't be opened, which has been told.
 #[derive(Drop)]
-pub struct Opened {
-    pub fd: i32,
+pub struct Opened<F> {
+    pub file: Option<F>,
     pub missing: bool,
     pub unread: bool,
 }
@@ -19,54 +23,56 @@ pub struct Loaded {
     pub unread: bool,
 }
 
-// Opens a file for reading; a negative answer where that failed, and errno says why.
-fn descriptor(path: &[u8]) -> i32 {
-    let mut left = u64::MAX;
-    while 0 < left {
-        left -= 1;
-        let fd = os::open_read(path);
-        if 0 <= fd {
-            return fd;
-        }
-        if os::errno() != libc::EINTR {
-            return fd;
-        }
+// Opens a file for reading. A name is text for std, and no other opens anything.
+pub fn open_named<R: Files>(rt: &R, path: &[u8]) -> Result<R::File, Error> {
+    match std::str::from_utf8(path) {
+        Ok(path) => fs::open(rt, path),
+        Err(_) => Err(Error::from(ErrorKind::InvalidInput)),
     }
-    -1
 }
 
-// Opens a file. One that is there and can't be opened is told on standard error: `unread`, and the system's reason.
-pub fn open(path: &[u8], unread: &[u8]) -> Opened {
-    let fd = descriptor(path);
-    if 0 <= fd {
-        return Opened {
-            fd,
+// Opens a file. One that is there and can't be opened is told: `unread`, and the system's reason.
+pub fn open<R: Files, W: Write>(
+    rt: &R,
+    path: &[u8],
+    unread: &[u8],
+    errors: &mut W,
+) -> Opened<R::File> {
+    match open_named(rt, path) {
+        Ok(file) => Opened {
+            file: Some(file),
             missing: false,
             unread: false,
-        };
+        },
+        Err(error) => not_opened(error, unread, errors),
     }
-    if os::errno() == libc::ENOENT {
-        return Opened {
-            fd,
-            missing: true,
-            unread: false,
-        };
+}
+
+// What a name gave that couldn't be opened.
+fn not_opened<F, W: Write>(error: Error, unread: &[u8], errors: &mut W) -> Opened<F> {
+    let missing = error.kind() == ErrorKind::NotFound;
+    if !missing {
+        told::tell(errors, unread, &error);
     }
-    os::fail(unread);
     Opened {
-        fd,
-        missing: false,
-        unread: true,
+        file: None,
+        missing,
+        unread: !missing,
     }
 }
 
 // Reads on, up to the end or till the room is full. A read that fails is told likewise, and then nothing counts as read.
-fn read_told(fd: i32, room: &mut [u8], unread: &[u8]) -> Loaded
+fn read_told<F: Read, W: Write>(
+    file: &mut F,
+    room: &mut [u8],
+    unread: &[u8],
+    errors: &mut W,
+) -> Loaded
     ensures { IsPrefixLen result.len room.new }
 {
-    let reading = read_full(fd, room);
-    if reading.failed {
-        os::fail(unread);
+    let reading = read_full(file, room);
+    if let Some(error) = reading.failure {
+        told::tell(errors, unread, &error);
         return Loaded {
             len: 0,
             missing: false,
@@ -81,19 +87,22 @@ fn read_told(fd: i32, room: &mut [u8], unread: &[u8]) -> Loaded
 }
 
 // Reads a file from its start. A missing one is empty; one that can't be read is told likewise.
-pub fn load(path: &[u8], room: &mut [u8], unread: &[u8]) -> Loaded
+pub fn load<R: Files, W: Write>(
+    rt: &R,
+    path: &[u8],
+    room: &mut [u8],
+    unread: &[u8],
+    errors: &mut W,
+) -> Loaded
     ensures { IsPrefixLen result.len room.new }
 {
-    let opened = open(path, unread);
-    let missing = opened.missing;
-    if missing || opened.unread {
-        return Loaded {
+    let opened = open(rt, path, unread, errors);
+    match opened.file {
+        Some(mut file) => { read_told(&mut file, room, unread, errors) }
+        None => Loaded {
             len: 0,
-            missing,
+            missing: opened.missing,
             unread: opened.unread,
-        };
+        },
     }
-    let loaded = read_told(opened.fd, room, unread);
-    libc::close(opened.fd);
-    loaded
 }

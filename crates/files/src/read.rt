@@ -1,35 +1,40 @@
-// Reading on from a descriptor.
+// Reading on from a reader.
 ghost use Rattle.io.specs.Counts.{IsPrefixLen};
 
-// How many bytes of the room are filled, and whether a read failed behind them. If none failed, a room that isn't full has the end.
+use std::io::{Error, ErrorKind, Read};
+
+// How many bytes of the room are filled, and the error of a read that failed behind them. If none failed, a room that isn't full has
+// the end.
 #[derive(Drop)]
 pub struct Reading {
     pub len: usize,
-    pub failed: bool,
+    pub failure: Option<Error>,
 }
 
-// Reads until the room is full, the file ends or a read fails; errno then says why.
-pub fn read_full(fd: i32, room: &mut [u8]) -> Reading
+// Reads until the room is full, the file ends or a read fails.
+pub fn read_full<R: Read>(reader: &mut R, room: &mut [u8]) -> Reading
     ensures { IsPrefixLen result.len room.new }
 {
     let mut len = 0;
-    let mut left = u64::MAX;
-    while 0 < left && len < room.len() {
-        left -= 1;
-        let got = libc::read(fd, &mut room[len..]);
-        if 0 < got {
-            len += io::count(got, &room[len..]);
-            continue;
+    for _ in 0..u64::MAX {
+        if len == room.len() {
+            return Reading { len, failure: None };
         }
-        if got == 0 {
-            return Reading { len, failed: false };
-        }
-        if os::errno() != libc::EINTR {
-            return Reading { len, failed: true };
+        match reader.read(&mut room[len..]) {
+            Ok(0) => return Reading { len, failure: None },
+            Ok(n) => len += n,
+            Err(e) => {
+                if e.kind() != ErrorKind::Interrupted {
+                    return Reading {
+                        len,
+                        failure: Some(e),
+                    };
+                }
+            }
         }
     }
     Reading {
         len,
-        failed: len < room.len(),
+        failure: Some(Error::from(ErrorKind::TimedOut)),
     }
 }

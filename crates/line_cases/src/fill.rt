@@ -43,7 +43,7 @@ fn fill_cut(
         if !answer::same_outcome(filled, refusal::plain(refusal::NONE)) {
             return false;
         }
-        first = std::num::wrapping_add_u16(first, stride) % 4096;
+        first = first.wrapping_add(stride) % 4096;
     }
     true
 }
@@ -83,7 +83,7 @@ pub(crate) fn same_fill(case: &[u8]) -> bool {
 fn sum_of(numbers: &[u16]) -> u32 {
     let mut sum = 0;
     for k in 0..numbers.len() {
-        sum = std::num::wrapping_add_u32(sum, numbers[k] as u32);
+        sum = sum.wrapping_add(numbers[k] as u32);
     }
     sum
 }

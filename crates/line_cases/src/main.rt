@@ -1,4 +1,6 @@
 // Replays the lists of data/ with the library's line calibration; tests/oracle/README.md has their formats.
+#![tactic(auto)]
+
 mod convert;
 mod decode;
 mod fill;
@@ -6,8 +8,9 @@ mod handed;
 mod two_boards;
 
 use replay::{Layout, lengths};
+use std::rt::Files;
 
-#[derive(Drop)]
+#[derive(Clone, Copy)]
 enum List {
     Decode,
     Convert,
@@ -73,20 +76,20 @@ fn same<'a>(
 }
 
 // Compares a list to its end.
-fn replay_list(list: List, name: &[u8]) {
-    let mut run = replay::open(name, layout_of(list));
+fn replay_list<R: Files + Print>(rt: &R, list: List, name: &[u8]) {
+    let mut run = replay::open(rt, name, layout_of(list));
     while 0 < run.left {
         let same = same(list, &run.words, &run.reference, &run.case);
-        run = replay::step(name, run, same);
+        run = replay::step(rt, name, run, same);
     }
-    replay::close(name, run);
+    replay::close(rt, name, run);
 }
 
-fn main() {
-    replay_list(List::Decode, b"decode");
-    replay_list(List::Convert, b"convert");
-    replay_list(List::Fill, b"fill");
-    replay_list(List::Stretches, b"stretches");
-    replay_list(List::ShortDecode, b"short_decode");
-    replay_list(List::Samples, b"samples");
+fn main(rt: HostRuntime) {
+    replay_list(&rt, List::Decode, b"decode");
+    replay_list(&rt, List::Convert, b"convert");
+    replay_list(&rt, List::Fill, b"fill");
+    replay_list(&rt, List::Stretches, b"stretches");
+    replay_list(&rt, List::ShortDecode, b"short_decode");
+    replay_list(&rt, List::Samples, b"samples");
 }

@@ -58,7 +58,7 @@ pub fn told(case: &[u8], number: usize, record: usize) -> Refusal {
     Refusal {
         number: bytes::number8(case, number),
         record: bytes::number8(case, record),
-        place: bytes::number8(case, std::num::wrapping_add_usize(record, 1)),
+        place: bytes::number8(case, record.wrapping_add(1)),
     }
 }
 

@@ -13,18 +13,12 @@ pub fn number8(bytes: &[u8], at: usize) -> u8 {
 
 // The number of two bytes, low first, at a place.
 pub fn number16(bytes: &[u8], at: usize) -> u16 {
-    u16_of(
-        number8(bytes, at),
-        number8(bytes, std::num::wrapping_add_usize(at, 1)),
-    )
+    u16_of(number8(bytes, at), number8(bytes, at.wrapping_add(1)))
 }
 
 // The number of four bytes, low first, at a place.
 pub fn number32(bytes: &[u8], at: usize) -> u32 {
-    u32_of(
-        number16(bytes, at),
-        number16(bytes, std::num::wrapping_add_usize(at, 2)),
-    )
+    u32_of(number16(bytes, at), number16(bytes, at.wrapping_add(2)))
 }
 
 // The same four bytes as a signed number.

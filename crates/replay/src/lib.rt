@@ -1,12 +1,19 @@
 // What the programs that replay lists of another implementation's answers have in common: going through a list from case to case,
 // counting the answers that differ.
+#![tactic(auto)]
+
 pub mod answer;
 pub mod bytes;
 pub mod lengths;
 
-ghost use Rattle.std.specs.Prelude.{◌-◌, ◌≤◌};
+ghost use Rattle.std.specs.Prelude.{◌≡◌, ◌-◌, ◌≤◌};
 
 use bytes::{at_most, number32};
+use files::load::open_named;
+use files::read::read_full;
+use std::fmt::Display;
+use std::io::Read;
+use std::rt::Files;
 
 const DUMP_WORDS: usize = 88;
 
@@ -21,7 +28,7 @@ const MOST_NAMED: u64 = 5;
 
 // How a list is laid out: the bytes of a case, and how many cases follow a dump, 0 where the list has no dumps; and whether dumps come
 // in pairs, of a field board and a reference board.
-#[derive(Drop)]
+#[derive(Clone, Copy)]
 pub struct Layout {
     pub case: usize,
     pub per_dump: u64,
@@ -30,27 +37,27 @@ pub struct Layout {
 
 // A list on its way: the words of the last dump, with zeros behind them, beside them those of the reference board where dumps come in
 // pairs, and the case that comes next, at the start of its room. `left` is 0 at the list's end and falls with each case: a loop that
-// runs while it isn't 0 ends.
+// runs while it isn't 0 ends. A list that couldn't be opened has no case.
 #[derive(Drop)]
-pub struct Run {
+pub struct Run<F> {
     pub words: [u32; WORDS],
     pub reference: [u32; WORDS],
     pub case: [u8; CASE],
     pub left: u64,
-    fd: i32,
+    file: Option<F>,
     layout: Layout,
     compared: u64,
     differ: u64,
 }
 
 // Opens a list, and reads its first case.
-pub fn open(name: &[u8], layout: Layout) -> Run {
+pub fn open<R: Files>(rt: &R, name: &[u8], layout: Layout) -> Run<R::File> {
     next(Run {
         words: [0; WORDS],
         reference: [0; WORDS],
         case: [0; CASE],
         left: u64::MAX,
-        fd: os::open_read(name),
+        file: open_named(rt, name).ok(),
         layout,
         compared: 0,
         differ: 0,
@@ -58,71 +65,69 @@ pub fn open(name: &[u8], layout: Layout) -> Run {
 }
 
 // Counts the case, by whether it is answered alike, and reads the next one.
-pub fn step(name: &[u8], run: Run, same: bool) -> Run
+pub fn step<R: Print, F: Read>(rt: &R, name: &[u8], run: Run<F>, same: bool) -> Run<F>
     ensures { result.left ≤ run.left - 1 }
 {
-    next(count(name, run, same))
+    next(count(rt, name, run, same))
 }
 
 // Writes the list's closing line.
-pub fn close(name: &[u8], run: Run) {
-    io::write_all(1, name);
-    io::write_all(1, b": ");
-    io::print_decimal(1, run.compared);
-    io::write_all(1, b" compared, ");
-    io::print_decimal(1, run.differ);
-    io::write_all(1, b" differ\n");
-    libc::close(run.fd);
+pub fn close<R: Print, F: Drop>(rt: &R, name: &[u8], run: Run<F>) {
+    let compared = run.compared;
+    let differ = run.differ;
+    write_line(
+        rt,
+        name,
+        format_args!(": {compared} compared, {differ} differ"),
+    );
 }
 
-fn count(name: &[u8], mut run: Run, same: bool) -> Run
+// Writes a line that begins with a list's name. That it can't be written isn't told: then the output isn't the expected one.
+fn write_line<R: Print, D: Display + Drop>(rt: &R, name: &[u8], said: D) {
+    let _ = rt.write_all(name);
+    let _ = rt.println(said);
+}
+
+fn count<R: Print, F>(rt: &R, name: &[u8], mut run: Run<F>, same: bool) -> Run<F>
     ensures { result.left ≤ run.left }
 {
     let case = run.compared;
-    run.compared = std::num::wrapping_add_u64(case, 1);
+    run.compared = case.wrapping_add(1);
     if same {
         return run;
     }
-    name_difference(name, case, run.differ);
-    run.differ = std::num::wrapping_add_u64(run.differ, 1);
+    name_difference(rt, name, case, run.differ);
+    run.differ = run.differ.wrapping_add(1);
     run
 }
 
 // Names a difference by its case's number, from 0.
-fn name_difference(name: &[u8], case: u64, before: u64) {
+fn name_difference<R: Print>(rt: &R, name: &[u8], case: u64, before: u64) {
     if before < MOST_NAMED {
-        io::write_all(1, name);
-        io::write_all(1, b": case ");
-        io::print_decimal(1, case);
-        io::write_all(1, b" differs\n");
+        write_line(rt, name, format_args!(": case {case} differs"));
     }
 }
 
 // Reads the next case, and before it the dumps that are due.
-fn next(mut run: Run) -> Run
+fn next<F: Read>(mut run: Run<F>) -> Run<F>
     ensures { result.left ≤ run.left - 1 }
 {
     let layout = run.layout;
-    let left = run.left;
     if dump_due(layout.per_dump, run.compared) {
-        let mut words = run.words;
-        read_dump(run.fd, &mut words);
-        run.words = words;
+        read_dump(&mut run.file, &mut run.words);
         run = with_reference(run, layout.paired);
     }
-    let mut case = run.case;
-    let whole = read_case(run.fd, layout.case, &mut case);
-    run.case = case;
-    run.left = left_after(left, whole);
+    let whole = read_case(&mut run.file, layout.case, &mut run.case);
+    run.left = left_after(run.left, whole);
     run
 }
 
 // Reads the reference board's dump where dumps come in pairs.
-fn with_reference(mut run: Run, paired: bool) -> Run {
+fn with_reference<F: Read>(mut run: Run<F>, paired: bool) -> Run<F>
+    ensures { result.left ≡ run.left }
+{
     if paired {
-        let mut words = run.reference;
-        read_dump(run.fd, &mut words);
-        run.reference = words;
+        read_dump(&mut run.file, &mut run.reference);
     }
     run
 }
@@ -136,9 +141,9 @@ fn dump_due(per_dump: u64, compared: u64) -> bool {
 }
 
 // Reads a dump, each word low byte first. Bytes that the list hasn't count as 0.
-fn read_dump(fd: i32, words: &mut [u32; WORDS]) {
+fn read_dump<F: Read>(file: &mut Option<F>, words: &mut [u32; WORDS]) {
     let mut bytes = [0u8; 352];
-    io::read_full(fd, &mut bytes);
+    read_start(file, 352, &mut bytes);
     put_words(&bytes, words);
 }
 
@@ -150,14 +155,17 @@ fn put_words(bytes: &[u8], words: &mut [u32]) {
 }
 
 // Reads the first n bytes of a room, and tells whether there were so many.
-fn read_start(fd: i32, n: usize, room: &mut [u8]) -> bool {
+fn read_start<F: Read>(file: &mut Option<F>, n: usize, room: &mut [u8]) -> bool {
     let most = at_most(n, room.len());
-    io::read_full(fd, &mut room[0..most]) == n
+    match file {
+        Some(file) => read_full(file, &mut room[0..most]).len == n,
+        None => false,
+    }
 }
 
 // Whether there was a whole case.
-fn read_case(fd: i32, size: usize, case: &mut [u8; CASE]) -> bool {
-    read_start(fd, size, case)
+fn read_case<F: Read>(file: &mut Option<F>, size: usize, case: &mut [u8; CASE]) -> bool {
+    read_start(file, size, case)
 }
 
 // A list ends with its last whole case.
@@ -177,12 +185,10 @@ pub fn lent(words: &[u32], n: u8) -> &[u32] {
 }
 
 // Reads a file to the start of a room, and tells how many bytes it has there.
-pub fn read(name: &[u8], room: &mut [u8]) {
-    let fd = os::open_read(name);
-    let n = io::read_full(fd, room);
-    libc::close(fd);
-    io::write_all(1, name);
-    io::write_all(1, b": ");
-    io::print_decimal(1, n as u64);
-    io::write_all(1, b" bytes\n");
+pub fn read<R: Files + Print>(rt: &R, name: &[u8], room: &mut [u8]) {
+    let n = match open_named(rt, name) {
+        Ok(mut file) => read_full(&mut file, room).len,
+        Err(_) => 0,
+    };
+    write_line(rt, name, format_args!(": {n} bytes"));
 }

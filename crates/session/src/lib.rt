@@ -1,2 +1,4 @@
 // The desk's work over its files.
+#![tactic(auto)]
+
 pub mod desk;

@@ -1,2 +1,4 @@
 // Words and numbers, put into lent bytes.
+#![tactic(auto)]
+
 pub mod put;

@@ -1,0 +1,23 @@
+-- `words::put_decimal` meets its contract: with room it is the number, and else nothing.
+use mathlib.Core.Path.{sym, ◌∙◌}
+use borrow.Author.Tests.{leb-true, leb-false}
+use Rattle.words.proofs.Rooms.{room_none, room_put}
+use Rattle.words.proofs.put.put_decimal.Goals as goal
+
+pub copy_decimal-requires : goal.copy_decimal-requires
+copy_decimal-requires c = leb-true _ _ (sym c.has_room.ensures ∙ c.if-has_room.true)
+
+pub returns-then-has_room-clause-past : goal.returns-then-has_room-clause-past
+returns-then-has_room-clause-past c = (room_put 20 _ _ _ (leb-true _ _ (sym c.has_room.ensures ∙ c.if-has_room.true)) c.copy_decimal.ensures.0 c.copy_decimal.ensures.1).0
+
+pub returns-then-has_room-clause-text : goal.returns-then-has_room-clause-text
+returns-then-has_room-clause-text c = (room_put 20 _ _ _ (leb-true _ _ (sym c.has_room.ensures ∙ c.if-has_room.true)) c.copy_decimal.ensures.0 c.copy_decimal.ensures.1).1.0
+
+pub returns-then-has_room-clause-short : goal.returns-then-has_room-clause-short
+returns-then-has_room-clause-short c = (room_put 20 _ _ _ (leb-true _ _ (sym c.has_room.ensures ∙ c.if-has_room.true)) c.copy_decimal.ensures.0 c.copy_decimal.ensures.1).1.1
+
+pub returns-clause-past : goal.returns-clause-past
+returns-clause-past c = (room_none 20 _ _ _ (leb-false _ _ (sym c.has_room.ensures ∙ c.if-has_room.false))).0
+
+pub returns-clause-text : goal.returns-clause-text
+returns-clause-text c = (room_none 20 _ _ _ (leb-false _ _ (sym c.has_room.ensures ∙ c.if-has_room.false))).1.0
