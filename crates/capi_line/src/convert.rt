@@ -13,8 +13,7 @@ use terms::quantity::Count;
 use terms::voltage::Voltage;
 
 // The millivolts of a count. Refusals 10, 8.
-#[unsafe(no_mangle)]
-pub extern "C" fn skv_convert(cal: SkvLineRecord, count: SkvCount) -> SkvVoltage
+pub fn skv_convert(cal: SkvLineRecord, count: SkvCount) -> SkvVoltage
     ensures { result ≡ voltage_c (by_record (handed cal) (λ line. convert_of line count.raw) (Refused (plain 10))) }
 {
     let Handed::Record(record) = record_from(cal) else {

@@ -34,8 +34,7 @@ fn decoded_c(decoded: Decoded) -> SkvDecoded
 }
 
 // The line record of a unit at an attenuation, from a dump and its map. Refusals 1, 20, 7, the map's, 9.
-#[unsafe(no_mangle)]
-pub extern "C" fn skv_decode(
+pub fn skv_decode(
     dump: &[u32],
     lengths: &[u8],
     map: &[u8],

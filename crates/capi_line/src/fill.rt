@@ -13,8 +13,7 @@ use terms::refusal::Outcome;
 
 // Writes the answers of the counts from a first one on, as many as the lent list has numbers. A refusal, 10, 11, leaves the list as it
 // was.
-#[unsafe(no_mangle)]
-pub extern "C" fn skv_fill(cal: SkvLineRecord, first: SkvCount, out: &mut [u16]) -> SkvOutcome
+pub fn skv_fill(cal: SkvLineRecord, first: SkvCount, out: &mut [u16]) -> SkvOutcome
     ensures answer { result ≡ outcome_c (by_record (handed cal) (λ line. outcome_of (fill_refusal line first.raw (length out.old))) (outcome_of 10)) }
     ensures lent { out.new ≡ by_record (handed cal) (λ line. filled line first.raw out.old) out.old }
 {

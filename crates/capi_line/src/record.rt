@@ -102,8 +102,7 @@ pub(crate) const NO_RECORD: SkvLineRecord = SkvLineRecord {
 };
 
 // Good where the record may be converted by. Refusal 10.
-#[unsafe(no_mangle)]
-pub extern "C" fn skv_check_record(cal: SkvLineRecord) -> SkvOutcome
+pub fn skv_check_record(cal: SkvLineRecord) -> SkvOutcome
     ensures { result ≡ outcome_c (by_record (handed cal) (λ line. outcome_of (record_refusal line)) (outcome_of 10)) }
 {
     let Handed::Record(record) = record_from(cal) else {

@@ -1,0 +1,24 @@
+-- Each call's promise, as the check reads it from the source, admits one answer and one content of lent memory per input: it is an
+-- equation. Assumes nothing.
+use mathlib.Core.Path.{sym, ◌∙◌}
+use mathlib.Core.List.{List}
+use Prim.Native.Nat.{ℕ}
+use Rattle.terms.specs.OneAnswer.{OneAnswer}
+use Rattle.capi.specs.declared.answer.SkvOutcome.{SkvOutcome}
+use Rattle.capi_line_c.proofs.skv_check_record.Reads as skv_check_record
+use Rattle.capi_line_c.proofs.skv_decode.Reads as skv_decode
+use Rattle.capi_line_c.proofs.skv_convert.Reads as skv_convert
+use Rattle.capi_line_c.proofs.skv_fill.Reads as skv_fill
+
+pub skv_check_record_one : OneAnswer (λ κs z e. z) skv_check_record.Post
+skv_check_record_one κs a z z' e e' p q = p ∙ sym q
+
+pub skv_decode_one : OneAnswer (λ κs z e. z) skv_decode.Post
+skv_decode_one κs a z z' e e' p q = p ∙ sym q
+
+pub skv_convert_one : OneAnswer (λ κs z e. z) skv_convert.Post
+skv_convert_one κs a z z' e e' p q = p ∙ sym q
+
+-- of a fill there is to see the outcome and what the lent list, the third parameter, is at exit
+pub skv_fill_one : OneAnswer {X = SkvOutcome × List ℕ} (λ κs z e. (z, e.1.1.0.now)) skv_fill.Post
+skv_fill_one κs a z z' e e' p q = λ i. ((p.0 ∙ sym q.0) i, (p.1 ∙ sym q.1) i)
