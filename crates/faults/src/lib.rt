@@ -1,2 +1,4 @@
 // What is wrong with one of the desk's files.
+#![tactic(auto)]
+
 pub mod fault;
