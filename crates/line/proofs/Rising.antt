@@ -1,8 +1,8 @@
 -- Demand 3, of the answers of every record inside its ranges: with the lookup, from 2880 on the lookup voltage never falls, and the
 -- blend lies between line and lookup; without it the answer never falls. Assumes nothing.
-use mathlib.Core.Path.{◌≡◌, refl, ◌∙◌, ap}
+use mathlib.Core.Path.{◌≡◌, ◌∙◌}
 use mathlib.Core.Bool.{true, false}
-use Prim.Native.Nat.{ℕ, zero, suc, ◌+◌, ◌-◌, ◌/◌, ◌≤◌, min, max}
+use Prim.Native.Nat.{ℕ, zero, suc, ◌+◌, ◌-◌, ◌≤◌, min, max}
 use native.Mathlib.Nat.{mul-le-mul_left, le_refl, le_trans, add-zero, add-sub_of_le, min-le_left, min-le_right, le-max_left, le-max_right}
 use native.Mathlib.Omega.{arith}
 use Rattle.lut.proofs.Sums.{voltage_is, sum_along}

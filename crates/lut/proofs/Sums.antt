@@ -1,6 +1,6 @@
 -- The lookup's numerator is esp-hal's signed sum regrouped: a mean of the two points around the count, weighed by its place between
 -- them. So it is never negative, it is small, and from one point to the next it grows by one step a count. Assumes nothing.
-use mathlib.Core.Path.{◌≡◌, refl, sym, ◌∙◌, ap}
+use mathlib.Core.Path.{◌≡◌, refl, ◌∙◌, ap}
 use Prim.Native.Nat.{ℕ, zero, suc, ◌+◌, ◌*◌, ◌-◌, ◌/◌, ◌%◌, ◌≤◌, min}
 use native.Mathlib.Nat.{add-zero, mul-sub, mul-le-mul_left, mul-le-mul_right}
 use native.Mathlib.Omega.{arith}

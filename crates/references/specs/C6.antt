@@ -1,7 +1,6 @@
 -- Document 01, "S2, C6 and curves": the C6's reference voltages, "as in the crate": `rtc_calib_cal_mv` of efuse/esp32c6/mod.rs, from
 -- ESP-IDF's components/efuse/esp32c6/esp_efuse_rtc_calib.c, line 98. Its refusal: 7.
 use Rattle.std.specs.Prelude.{cond, [], ◌∷◌, ℕ, get_or, eqb}
-use Rattle.terms.specs.declared.quantity.Millivolt.{Millivolt}
 use Rattle.terms.specs.Refusal.{unit_refusal, answered}
 use Rattle.terms.specs.declared.voltage.Voltage.{Voltage}
 use Rattle.terms.specs.declared.voltage.Voltage.TheVariants.{Value, Refused}

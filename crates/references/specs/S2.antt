@@ -1,6 +1,5 @@
 -- Document 01, "S2, C6 and curves": the S2's reference voltages. In esp-hal: `rtc_calib_cal_mv` of efuse/esp32s2/mod.rs. Its refusal: 7.
 use Rattle.std.specs.Prelude.{[], ◌∷◌, ℕ, get_or}
-use Rattle.terms.specs.declared.quantity.Millivolt.{Millivolt}
 use Rattle.terms.specs.Refusal.{unit_refusal, answered}
 use Rattle.terms.specs.declared.voltage.Voltage.{Voltage}
 use Rattle.terms.specs.declared.voltage.Voltage.TheVariants.{Value, Refused}

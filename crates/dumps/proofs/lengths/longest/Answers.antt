@@ -1,6 +1,5 @@
 -- `dumps::longest` meets its contract: at each turn it has the largest of the blocks before.
 use mathlib.Core.Path.{◌≡◌}
-use Prim.Native.Nat.{◌-◌}
 use native.Mathlib.Omega.{arith}
 use Rattle.dumps.proofs.Lists.{longest_start, longest_more, longest_same}
 use Rattle.dumps.proofs.lengths.longest.Goals as goal

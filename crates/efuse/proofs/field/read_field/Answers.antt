@@ -5,7 +5,6 @@ use mathlib.Core.Logic.{inr}
 use Prim.Native.Nat.{ℕ, ◌+◌, ◌%◌, ◌^◌, ◌≤◌, ◌<◌}
 use native.Mathlib.Omega.{arith}
 use lib.ListN.{length, get_or}
-use borrow.Author.Tests.{ltb-true, ltb-false}
 use Rattle.dumps.specs.Dump.{dump_refusal}
 use Rattle.dumps.specs.Lengths.{words_of}
 use Rattle.dumps.proofs.Dumps.{dump_whole}

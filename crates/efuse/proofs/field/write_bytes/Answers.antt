@@ -1,6 +1,5 @@
 -- `efuse::write_bytes` meets its contract: at each turn the first i bytes are those of the field.
 use mathlib.Core.Path.{sym, ◌∙◌}
-use Prim.Native.Nat.{◌-◌}
 use native.Mathlib.Omega.{arith}
 use lib.ListN.{length-set}
 use Rattle.terms.proofs.Tab.{fill_start, fill_more, fill_done}

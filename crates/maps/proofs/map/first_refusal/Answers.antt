@@ -1,6 +1,5 @@
 -- `maps::first_refusal` meets its contract: at each turn the first k records have passed.
 use mathlib.Core.Path.{sym, ◌∙◌}
-use Prim.Native.Nat.{◌-◌}
 use borrow.Author.Rules.{rules}
 use Rattle.terms.proofs.Refusals.{first_start, first_pass}
 use Rattle.maps.proofs.Told.{told_stop, told_end}

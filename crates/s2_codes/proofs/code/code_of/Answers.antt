@@ -6,7 +6,7 @@ use lib.IntN.{ℤ, nat_abs}
 use mir.Syntax.{w16, w32}
 use mir.Val.{to_z, of_z}
 use mir.ValLaws.{to_z-of_z}
-use borrow.Author.Rules.{rules, sfits_of}
+use borrow.Author.Rules.{rules}
 use Rattle.terms.specs.declared.code.Code.TheVariants.{Value, Refused}
 use Rattle.terms.specs.Refusal.{unit_refusal}
 use Rattle.terms.proofs.Machine.{cast_fits}

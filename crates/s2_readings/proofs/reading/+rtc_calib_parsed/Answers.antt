@@ -1,7 +1,7 @@
 -- `s2_readings::rtc_calib_parsed` meets its contract, by the tag's rank, which falls at each call of itself: its sum is document 01's,
 -- and fits.
 use mathlib.Core.Path.{◌≡◌, sym, ◌∙◌, ap}
-use Prim.Native.Nat.{ℕ, ◌<◌}
+use Prim.Native.Nat.{ℕ}
 use native.Mathlib.Omega.{arith}
 use mathlib.Core.List.{List}
 use mathlib.Core.Bool.{Bool}
@@ -10,7 +10,7 @@ use mir.Syntax.{w16, w32}
 use mir.Val.{SFits, to_z, of_z}
 use mir.ValLaws.{to_z-of_z}
 use borrow.Author.Rules.{sfits_of}
-use Rattle.terms.proofs.Machine.{op_fits, op_back, wider_fits, wider_back}
+use Rattle.terms.proofs.Machine.{op_fits, op_back, wider_back}
 use Rattle.s2_readings.specs.declared.table.RtcCalibEntry.{RtcCalibEntry}
 use Rattle.s2_readings.specs.Table.{base, depends, entry_at}
 use Rattle.s2_readings.specs.Reading.{term_of, reading_of}

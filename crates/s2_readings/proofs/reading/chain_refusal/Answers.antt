@@ -1,6 +1,6 @@
 -- `s2_readings::chain_refusal` meets its contract: at each turn the first k links have passed.
 use mathlib.Core.Path.{◌≡◌, refl, sym, ◌∙◌, ap}
-use Prim.Native.Nat.{ℕ, ◌-◌}
+use Prim.Native.Nat.{ℕ}
 use borrow.Author.Rules.{rules}
 use Rattle.terms.proofs.Refusals.{first_start, first_pass, first_stop, first_none}
 use Rattle.efuse.specs.Field.{place_refusal}

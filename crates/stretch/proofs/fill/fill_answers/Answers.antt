@@ -1,6 +1,6 @@
 -- `stretch::fill_answers` meets its contract: at each turn the first `at` answers are written, and the turn adds those of one segment.
 use mathlib.Core.Path.{ap}
-use Prim.Native.Nat.{◌+◌, ◌-◌, ◌≤◌}
+use Prim.Native.Nat.{◌+◌, ◌≤◌}
 use native.Mathlib.Omega.{arith}
 use lib.ListN.{length-take, length-drop}
 use Rattle.terms.proofs.Parts.{fill_part}

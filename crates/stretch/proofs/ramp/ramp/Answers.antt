@@ -1,5 +1,5 @@
 -- `stretch::ramp` meets its contract: at each turn the first i quotients are written, and the sum stands at place i.
-use Prim.Native.Nat.{◌+◌, ◌-◌, ◌≤◌}
+use Prim.Native.Nat.{◌+◌, ◌≤◌}
 use native.Mathlib.Omega.{arith}
 use lib.ListN.{length, length-set}
 use Rattle.terms.proofs.Tab.{fill_start, fill_more, fill_done}
