@@ -1,4 +1,6 @@
 // The C6's codes for C.
+#![tactic(auto)]
+
 pub mod channel;
 pub mod code;
 pub mod reference;

@@ -1,2 +1,4 @@
 // Curve correction for C.
+#![tactic(auto)]
+
 pub mod correct;

@@ -34,13 +34,7 @@ fn decoded_c(decoded: Decoded) -> SkvDecoded
 }
 
 // The line record of a unit at an attenuation, from a dump and its map. Refusals 1, 20, 7, the map's, 9.
-pub fn skv_decode(
-    dump: &[u32],
-    lengths: &[u8],
-    map: &[u8],
-    unit: u8,
-    atten: u8,
-) -> SkvDecoded
+pub fn skv_decode(dump: &[u32], lengths: &[u8], map: &[u8], unit: u8, atten: u8) -> SkvDecoded
     ensures { result ≡ decoded_c (decode_of lengths.now dump.now map.now unit atten) }
 {
     decoded_c(decode::decode(dump, lengths, map, unit, atten))
