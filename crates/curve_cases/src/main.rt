@@ -1,7 +1,7 @@
 // Replays the lists of data/ with the library's curve correction; tests/oracle/README.md has their formats.
 #![tactic(auto)]
 
-mod curves;
+mod corrections;
 
 use replay::Layout;
 use std::rt::Files;
@@ -30,8 +30,8 @@ fn layout_of(list: List) -> Layout {
 // Whether the library answers a case as the list says.
 fn same(list: List, case: &[u8; replay::CASE]) -> bool {
     match list {
-        List::Tables => curves::same_table(case),
-        List::Single => curves::same_single(case),
+        List::Tables => corrections::same_table(case),
+        List::Single => corrections::same_single(case),
     }
 }
 

@@ -17,7 +17,7 @@ use std::rt::Files;
 const NO_FILE: [u8; 12] = [8, 8, 8, 8, 8, 8, 8, 8, 8, 8, 8, 0];
 
 // A dump file: room for its words, how many stand there, and whether the file couldn't be read, which has been told.
-#[derive(Drop)]
+#[derive(Clone, Copy)]
 pub struct Dump {
     pub words: [u32; 88],
     pub len: usize,
@@ -25,7 +25,7 @@ pub struct Dump {
 }
 
 // The map, likewise, by its bytes.
-#[derive(Drop)]
+#[derive(Clone, Copy)]
 pub struct Map {
     pub bytes: [u8; 49],
     pub len: usize,
@@ -33,7 +33,7 @@ pub struct Map {
 }
 
 // The list of block lengths, likewise: room for one more than it has, so that a longer file is seen to be one.
-#[derive(Drop)]
+#[derive(Clone, Copy)]
 pub struct Lengths {
     pub bytes: [u8; 12],
     pub len: usize,
