@@ -23,7 +23,8 @@ pub fn correct(chip: Chip, unit: u8, atten: u8, line: Millivolt) -> Voltage
         return Voltage::Refused(refusal::plain(refusal::CURVE));
     }
     let v = line.0;
-    if LARGEST_LINE < v {
+    let too_large = LARGEST_LINE < v;
+    if too_large {
         return Voltage::Refused(refusal::plain(refusal::LINE_ANSWER));
     }
     Voltage::Value(Millivolt(less_error(table, atten, v)))

@@ -36,6 +36,7 @@ pub(crate) struct Found {
 }
 
 // Where a unit's a and b come from. In esp-hal: `check_efuse_tp`.
+#[tactic(auto, using(crate::proofs::Bases::no_high2))]
 fn basis(dump: &[u32], lengths: &[u8], map: &[u8], unit: u8) -> Basis
     requires { fields_refusal lengths.now Esp32 dump.now map.now ≡ 0 }
     ensures { result ≡ basis_of dump.now map.now unit }

@@ -19,6 +19,7 @@ const INIT_CODE_BASE: u16 = 1600;
 const CAL_VOL_SIGN_BIT: u32 = 9;
 
 // 12 where that minor block version has no calibration.
+#[tactic(auto, unfolding(crate::specs::Code::version_refusal))]
 fn version_refusal(minor: u8) -> u8
     ensures { result ≡ version_refusal minor }
 {
@@ -63,6 +64,7 @@ pub fn rtc_calib_init_code(
 }
 
 // What a reference code is counted from.
+#[tactic(auto, unfolding(crate::specs::Code::offset_of))]
 fn chk_offset(version: u8, atten: u8) -> u16
     ensures { result ≡ offset_of version atten }
 {

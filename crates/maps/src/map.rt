@@ -154,6 +154,7 @@ fn count_refusal(id: usize, count: u16) -> u8
 }
 
 // The place that record k tells with its number: at 18 that of its first nonzero byte, else 0.
+#[tactic(auto, using(crate::proofs::Told::place_byte))]
 fn told_place(map: &[u8], k: usize, number: u8) -> u8
     ensures { result ≡ cond (eqb number 18) (stray_of map.now k) 0 }
 {

@@ -12,6 +12,7 @@ const INPUT_VOUT_MV: [u16; 4] = [400, 550, 750, 1370];
 
 const INPUT_VOUT_MV_V2: [u16; 4] = [750, 1000, 1500, 2800];
 
+#[tactic(auto, unfolding(crate::specs::C6::millivolts_of))]
 fn input_vout_mv(version: u8, atten: u8) -> u16
     requires { atten ≤ 3 }
     ensures { result ≡ millivolts_of version atten }

@@ -95,6 +95,7 @@ pub(crate) fn rtc_calib_parsed(dump: &[u32], lengths: &[u8], tag: u8, skip_efuse
 }
 
 // The first thing wrong with a reading, of whose list only block 2's length is looked at: 1, 20, 7, 5.
+#[tactic(auto, using(crate::proofs::Readings::table_long))]
 fn table_refusal(
     dump: &[u32],
     lengths: &[u8],

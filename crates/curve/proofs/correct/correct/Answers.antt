@@ -16,11 +16,11 @@ pub returns-then-table-gt-LAST_TABLE : goal.returns-then-table-gt-LAST_TABLE
 returns-then-table-gt-LAST_TABLE c =
     correct_none _ _ _ _ (good (goal.at.returns-then-table-gt-LAST_TABLE c).Else-number-ne-NONE) _ c.table_of-table.ensures c.plain-then-table-gt-LAST_TABLE.ensures c.if-table-gt-LAST_TABLE.true
 
-pub returns-then-v-gt-LARGEST_LINE : goal.returns-then-v-gt-LARGEST_LINE
-returns-then-v-gt-LARGEST_LINE c =
-    correct_above _ _ _ _ (good (goal.at.returns-then-v-gt-LARGEST_LINE c).Else-number-ne-NONE) _ c.table_of-table.ensures c.plain-then-v-gt-LARGEST_LINE.ensures c.if-table-gt-LAST_TABLE.false c.if-v-gt-LARGEST_LINE.true
+pub returns-then-too_large : goal.returns-then-too_large
+returns-then-too_large c =
+    correct_above _ _ _ _ (good (goal.at.returns-then-too_large c).Else-number-ne-NONE) _ c.table_of-table.ensures c.plain-then-too_large.ensures c.if-table-gt-LAST_TABLE.false c.if-too_large.true
 
 pub returns : goal.returns
 returns c =
-    correct_good _ _ _ _ (good (goal.at.returns c).Else-number-ne-NONE) _ c.table_of-table.ensures c.if-table-gt-LAST_TABLE.false c.if-v-gt-LARGEST_LINE.false
+    correct_good _ _ _ _ (good (goal.at.returns c).Else-number-ne-NONE) _ c.table_of-table.ensures c.if-table-gt-LAST_TABLE.false c.if-too_large.false
     c.less_error.ensures

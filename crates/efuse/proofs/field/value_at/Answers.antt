@@ -25,10 +25,6 @@ returns-then-dump-ne-DUMP_WORDS c = sym (value_short _ _ _ c.if-dump-ne-DUMP_WOR
 pub returns-then-place_refusal-ne-NONE : goal.returns-then-place_refusal-ne-NONE
 returns-then-place_refusal-ne-NONE c = sym (value_outside _ _ _ (λ e. c.if-place_refusal-ne-NONE.true (c.place_refusal.ensures ∙ e)))
 
-pub returns-then-words_of-gt-BLOCK_WORDS : goal.returns-then-words_of-gt-BLOCK_WORDS
-returns-then-words_of-gt-BLOCK_WORDS c =
-    sym (value_long _ _ _ c.if-dump-ne-DUMP_WORDS.false (rw c.words_of.ensures at c.if-words_of-gt-BLOCK_WORDS.true))
-
 pub bits-requires : goal.bits-requires
 bits-requires c =
     (rw c.smaller.ensures (in_room _ _ _ (whole (goal.at.bits-requires c).Else-words_of-gt-BLOCK_WORDS) (own (goal.at.bits-requires c).Else-words_of-gt-BLOCK_WORDS) (inside (goal.at.bits-requires c).Else-words_of-gt-BLOCK_WORDS) _ (omega arith)), omega arith)

@@ -19,11 +19,6 @@ returns-then-high1-eq0 c =
     no_high1 _ _ _ c.requires _ c.record_value.ensures c.if-record_value-ne1.false c.record_value-low1.ensures c.if-low1-eq0.false c.record_value-low2.ensures
     c.if-low2-eq0.false c.record_value-high1.ensures c.if-high1-eq0.true
 
-pub returns-then-high2-eq0 : goal.returns-then-high2-eq0
-returns-then-high2-eq0 c =
-    no_high2 _ _ _ c.requires _ c.record_value.ensures c.if-record_value-ne1.false c.record_value-low1.ensures c.if-low1-eq0.false c.record_value-low2.ensures
-    c.if-low2-eq0.false c.record_value-high1.ensures c.if-high1-eq0.false c.record_value-high2.ensures c.if-high2-eq0.true
-
 pub returns : goal.returns
 returns c =
     all_codes _ _ _ c.requires _ c.record_value.ensures c.if-record_value-ne1.false c.record_value-low1.ensures c.if-low1-eq0.false c.record_value-low2.ensures

@@ -14,9 +14,6 @@ ready c = record { whole = c.if-dump-ne-DUMP_WORDS.false; room = rw c.words_of.e
 pub returns-then-dump-ne-DUMP_WORDS : goal.returns-then-dump-ne-DUMP_WORDS
 returns-then-dump-ne-DUMP_WORDS c = table_short _ _ _ _ _ _ c.if-dump-ne-DUMP_WORDS.true
 
-pub returns-then-words_of-gt-BLOCK_WORDS : goal.returns-then-words_of-gt-BLOCK_WORDS
-returns-then-words_of-gt-BLOCK_WORDS c = table_long _ _ _ _ _ _ c.if-dump-ne-DUMP_WORDS.false (rw c.words_of.ensures at c.if-words_of-gt-BLOCK_WORDS.true)
-
 pub returns-then-number-ne-NONE : goal.returns-then-number-ne-NONE
 returns-then-number-ne-NONE c =
     chosen_unit _ _ _ _ _ c.unit_refusal-number.ensures c.if-number-ne-NONE.true ∙ sym (table_chosen _ _ _ _ _ _ (ready (goal.at.returns-then-number-ne-NONE c).Else-words_of-gt-BLOCK_WORDS))
