@@ -12,7 +12,7 @@ use terms::voltage::Voltage;
 // Why a call was turned down, and which record of a map is bad; zeros where it wasn't. It stands in every answer that may be a refusal,
 // and is made by the two functions below alone.
 #[repr(C)]
-#[derive(Drop)]
+#[derive(Clone, Copy)]
 pub struct SkvRefusal {
     pub number: u8,
     pub record: u8,
@@ -21,41 +21,41 @@ pub struct SkvRefusal {
 
 // A raw reading of the converter, and a voltage: two types, so that C's compiler keeps them apart too.
 #[repr(C)]
-#[derive(Drop)]
+#[derive(Clone, Copy)]
 pub struct SkvCount {
     pub raw: u16,
 }
 
 #[repr(C)]
-#[derive(Drop)]
+#[derive(Clone, Copy)]
 pub struct SkvMillivolt {
     pub mv: u16,
 }
 
 // How a call ended that has no values to give.
 #[repr(C)]
-#[derive(Drop)]
+#[derive(Clone, Copy)]
 pub struct SkvOutcome {
     pub refusal: SkvRefusal,
 }
 
 // A voltage, a code or a reading, or why there is none.
 #[repr(C)]
-#[derive(Drop)]
+#[derive(Clone, Copy)]
 pub struct SkvVoltage {
     pub refusal: SkvRefusal,
     pub voltage: SkvMillivolt,
 }
 
 #[repr(C)]
-#[derive(Drop)]
+#[derive(Clone, Copy)]
 pub struct SkvCode {
     pub refusal: SkvRefusal,
     pub code: u16,
 }
 
 #[repr(C)]
-#[derive(Drop)]
+#[derive(Clone, Copy)]
 pub struct SkvReading {
     pub refusal: SkvRefusal,
     pub value: i32,

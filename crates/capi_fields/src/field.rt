@@ -12,7 +12,7 @@ use terms::refusal;
 
 // The bits bit_start to bit_start + bit_count - 1 of a block.
 #[repr(C)]
-#[derive(Drop)]
+#[derive(Clone, Copy)]
 pub struct SkvField {
     pub block: u8,
     pub bit_start: u16,
@@ -21,7 +21,7 @@ pub struct SkvField {
 
 // A field's value, or why it wasn't read.
 #[repr(C)]
-#[derive(Drop)]
+#[derive(Clone, Copy)]
 pub struct SkvRead {
     pub refusal: SkvRefusal,
     pub value: u32,

@@ -12,7 +12,7 @@ const BLOCK_WORDS: u32 = 8;
 
 // A part of a board's dump: its first word, and how many there are.
 #[repr(C)]
-#[derive(Drop)]
+#[derive(Clone, Copy)]
 pub struct SkvView {
     pub refusal: SkvRefusal,
     pub board: u8,

@@ -11,7 +11,7 @@ use terms::refusal;
 
 // A line record, or why there is none.
 #[repr(C)]
-#[derive(Drop)]
+#[derive(Clone, Copy)]
 pub struct SkvDecoded {
     pub refusal: SkvRefusal,
     pub record: SkvLineRecord,

@@ -17,7 +17,7 @@ const VREF: u8 = 1;
 
 // A line record; its source is `TWO_POINT` or `VREF`.
 #[repr(C)]
-#[derive(Drop)]
+#[derive(Clone, Copy)]
 pub struct SkvLineRecord {
     pub coeff_a: u32,
     pub coeff_b: u32,
@@ -28,7 +28,7 @@ pub struct SkvLineRecord {
 }
 
 // What C handed in for a record.
-#[derive(Drop)]
+#[derive(Clone, Copy)]
 pub(crate) enum Handed {
     Record(LineRecord),
     NoSource,

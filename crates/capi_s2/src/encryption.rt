@@ -10,7 +10,7 @@ use terms::refusal;
 
 // Whether flash encryption is on, 1 for yes and 0 for no, or why that isn't known.
 #[repr(C)]
-#[derive(Drop)]
+#[derive(Clone, Copy)]
 pub struct SkvFlashEncryption {
     pub refusal: SkvRefusal,
     pub on: u8,

@@ -10,7 +10,7 @@ use terms::refusal;
 
 // A version, or why there is none.
 #[repr(C)]
-#[derive(Drop)]
+#[derive(Clone, Copy)]
 pub struct SkvVersion {
     pub refusal: SkvRefusal,
     pub version: u8,
