@@ -5,5 +5,7 @@
 
 pub mod load;
 pub mod read;
+#[cfg(test)]
+mod tests;
 pub mod told;
 pub mod write;

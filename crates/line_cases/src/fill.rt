@@ -37,7 +37,7 @@ fn fill_cut(
     n: usize,
     table: &mut [u16; COUNTS],
 ) -> bool {
-    let mut first = 0;
+    let mut first = 0u16;
     for _ in 0..stretches {
         let filled = fill_part(handed, first, n, table, first);
         if !answer::same_outcome(filled, refusal::plain(refusal::NONE)) {
@@ -81,7 +81,7 @@ pub(crate) fn same_fill(case: &[u8]) -> bool {
 }
 
 fn sum_of(numbers: &[u16]) -> u32 {
-    let mut sum = 0;
+    let mut sum = 0u32;
     for k in 0..numbers.len() {
         sum = sum.wrapping_add(numbers[k] as u32);
     }

@@ -11,7 +11,7 @@ const TWO_POINT: u8 = 0;
 const VREF: u8 = 1;
 
 // C's calls take any byte for the source; the library's own take one that there is.
-#[derive(Drop)]
+#[derive(Clone, Copy)]
 pub(crate) enum Handed {
     ToC(SkvLineRecord),
     ToLibrary(LineRecord),

@@ -1,0 +1,114 @@
+// Reads and writes that are cut short, interrupted and that fail in between, by a reader and a writer of our own.
+use crate::read::read_full;
+use crate::told::tell;
+use crate::write::write_all;
+use std::io::{Error, Read, Result, Write};
+use std::test::Fail;
+
+// The system's numbers of an interrupted call, of an input that fails, of a folder and of a full disk.
+const INTERRUPTED: i32 = 4;
+
+const FAILED: i32 = 5;
+
+const FOLDER: i32 = 21;
+
+const FULL: i32 = 28;
+
+// Gives two bytes at a time. The second call is interrupted, and the fourth fails.
+#[derive(Drop)]
+struct Torn {
+    calls: u8,
+}
+
+impl Read for Torn {
+    fn read(&mut self, buf: &mut [u8]) -> Result<usize> {
+        self.calls = self.calls.saturating_add(1);
+        match self.calls {
+            2 => Err(Error::from_raw_os_error(INTERRUPTED)),
+            4 => Err(Error::from_raw_os_error(FAILED)),
+            _ => {
+                let mut two: &[u8] = b"ab";
+                two.read(buf)
+            }
+        }
+    }
+}
+
+// Takes a byte at a time. The second call is interrupted, and the fourth finds the disk full.
+#[derive(Drop)]
+struct Filling {
+    calls: u8,
+    taken: usize,
+}
+
+impl Write for Filling {
+    fn write(&mut self, buf: &[u8]) -> Result<usize> {
+        self.calls = self.calls.saturating_add(1);
+        if self.calls == 2 {
+            return Err(Error::from_raw_os_error(INTERRUPTED));
+        }
+        if self.calls == 4 {
+            return Err(Error::from_raw_os_error(FULL));
+        }
+        let n = buf.len().min(1);
+        self.taken = self.taken.saturating_add(n);
+        Ok(n)
+    }
+
+    fn flush(&mut self) -> Result<()> {
+        Ok(())
+    }
+}
+
+#[test]
+fn a_read_that_fails_is_no_end(rt: HostRuntime) -> std::result::Result<(), Fail> {
+    let mut room = [0u8; 8];
+    let reading = read_full(&mut Torn { calls: 0 }, &mut room);
+    assert_eq!(rt; reading.len, 4);
+    assert_eq!(rt; room, [b'a', b'b', b'a', b'b', 0, 0, 0, 0]);
+    let error = reading.failure.ok_or("no failure")?;
+    assert_eq!(rt; error.raw_os_error(), Some(FAILED));
+    Ok(())
+}
+
+#[test]
+fn a_full_room_ends_the_reads(rt: HostRuntime) {
+    let mut room = [0u8; 3];
+    let reading = read_full(&mut Torn { calls: 0 }, &mut room);
+    assert_eq!(rt; reading.len, 3);
+    assert_eq!(rt; room, [b'a', b'b', b'a']);
+    assert!(rt; reading.failure.is_none());
+}
+
+#[test]
+fn an_end_is_no_failure(rt: HostRuntime) {
+    let mut room = [0u8; 3];
+    let mut two: &[u8] = b"ab";
+    let reading = read_full(&mut two, &mut room);
+    assert_eq!(rt; reading.len, 2);
+    assert!(rt; reading.failure.is_none());
+}
+
+#[test]
+fn a_write_stops_where_it_fails(rt: HostRuntime) {
+    let mut disk = Filling { calls: 0, taken: 0 };
+    let written = write_all(&mut disk, b"abcd");
+    assert_eq!(rt; disk.taken, 2);
+    assert_eq!(rt;
+        written.err().and_then(|error| error.raw_os_error()),
+        Some(FULL)
+    );
+    let mut disk = Filling { calls: 0, taken: 0 };
+    assert!(rt; write_all(&mut disk, b"ab").is_ok());
+    assert_eq!(rt; disk.taken, 2);
+}
+
+#[test]
+fn a_reason_is_told_without_its_number(rt: HostRuntime) {
+    let mut line = Vec::new(rt.alloc());
+    tell(&mut line, b"map.bin", &Error::from_raw_os_error(FOLDER));
+    assert_eq!(rt; line.as_slice(), b"map.bin: Is a directory\n".as_slice());
+    let mut line = Vec::new(rt.alloc());
+    tell(&mut line, b"map.bin", &Error::other("no reason"));
+    assert_eq!(rt; line.as_slice(), b"map.bin: no reason\n".as_slice());
+}
