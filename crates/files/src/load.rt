@@ -16,7 +16,7 @@ pub struct Opened<F> {
 }
 
 // How many bytes of the room a file fills; whether it is missing; and whether it couldn't be read, which has been told.
-#[derive(Drop)]
+#[derive(Clone, Copy)]
 pub struct Loaded {
     pub len: usize,
     pub missing: bool,

@@ -5,7 +5,7 @@ use std::io::{Error, ErrorKind, Read};
 
 // How many bytes of the room are filled, and the error of a read that failed behind them. If none failed, a room that isn't full has
 // the end.
-#[derive(Drop)]
+#[derive(Clone, Copy)]
 pub struct Reading {
     pub len: usize,
     pub failure: Option<Error>,

@@ -24,7 +24,7 @@ fn output_file<R: Files>(rt: &R) -> Result<Option<R::File>, Error> {
 // Whether an error only says that there is nothing to wait for.
 fn is_needless(error: &Error) -> bool {
     match error.kind() {
-        ErrorKind::InvalidInput | ErrorKind::Unsupported | ErrorKind::ReadOnlyFilesystem => true,
+        ErrorKind::InvalidInput | ErrorKind::Unsupported => true,
         _ => false,
     }
 }

@@ -7,7 +7,7 @@ use terms::refusal::{Outcome, Refusal};
 use terms::voltage::Voltage;
 
 // What a call answered: its refusal, with number 0 where there is none, and a value, 0 beside a refusal.
-#[derive(Drop)]
+#[derive(Clone, Copy)]
 pub struct Answer {
     why: Refusal,
     value: i64,

@@ -5,7 +5,7 @@ use native.Mathlib.Omega.{arith}
 use lib.ListN.{length}
 use Rattle.dumps.specs.Lengths.{words_of}
 use Rattle.efuse.specs.Field.{bits_of, place_refusal, field_bits}
-use Rattle.efuse.proofs.Places.{in_room, value_short, value_long, value_outside, value_inside}
+use Rattle.efuse.proofs.Places.{in_room, value_short, value_outside, value_inside}
 use Rattle.efuse.proofs.field.value_at.Goals as goal
 use Rattle.efuse.proofs.field.value_at.Goals.{Else-words_of-gt-BLOCK_WORDS}
 

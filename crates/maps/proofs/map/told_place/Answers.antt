@@ -1,5 +1,5 @@
 -- `maps::told_place` meets its contract: its test is the definition's.
-use Rattle.maps.proofs.Told.{place_byte, place_none}
+use Rattle.maps.proofs.Told.{place_none}
 use Rattle.maps.proofs.map.told_place.Goals as goal
 
 pub returns : goal.returns

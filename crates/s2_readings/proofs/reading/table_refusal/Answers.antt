@@ -3,7 +3,7 @@ use mathlib.Core.Path.{sym, ◌∙◌, ap}
 use Rattle.terms.proofs.Refusals.{unit_inside}
 use Rattle.s2_readings.specs.Chain.{chain_refusal}
 use Rattle.s2_readings.specs.Private.{Ready}
-use Rattle.s2_readings.proofs.Readings.{chosen_unit, chosen_chain, table_short, table_long, table_chosen}
+use Rattle.s2_readings.proofs.Readings.{chosen_unit, chosen_chain, table_short, table_chosen}
 use Rattle.s2_readings.proofs.Tags.{tag_in_table}
 use Rattle.s2_readings.proofs.reading.table_refusal.Goals as goal
 use Rattle.s2_readings.proofs.reading.table_refusal.Goals.{Else-words_of-gt-BLOCK_WORDS}
