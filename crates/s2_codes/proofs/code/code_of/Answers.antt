@@ -38,29 +38,13 @@ ready c = (code_good _ _ _ _ _ (accepted c)).0
 unit-there : (c : Else-why-ne-NONE) → unit_refusal c.args.unit c.args.atten ≡ 0
 unit-there c = let good = (code_good _ _ _ _ _ (accepted c)).1 in unit_good _ _ good.0 good.1
 
-accepted-ready-value : (c : In-Value)
-    → version_refusal c.args.lengths.now c.args.dump.now c.args.map.now c.args.unit c.args.atten ≡ 0
-accepted-ready-value c = sym (told_is_number _ _ _ c.version_refusal-why.ensures) ∙ c.if-why-ne-NONE.false
-
-ready-value : (c : In-Value)
-    → Ready c.args.lengths.now c.args.dump.now
-ready-value c = (code_good _ _ _ _ _ (accepted-ready-value c)).0
-
-accepted-unit-there-value : (c : In-Value)
-    → version_refusal c.args.lengths.now c.args.dump.now c.args.map.now c.args.unit c.args.atten ≡ 0
-accepted-unit-there-value c = sym (told_is_number _ _ _ c.version_refusal-why.ensures) ∙ c.if-why-ne-NONE.false
-
-unit-there-value : (c : In-Value) → unit_refusal c.args.unit c.args.atten ≡ 0
-unit-there-value c = let good = (code_good _ _ _ _ _ (accepted-unit-there-value c)).1 in unit_good _ _ good.0 good.1
-
 -- a reading, and none of its chain's fields outside
-value : (c : In-Value) → let tag = tag_of 2 c.args.unit c.args.atten c.args.param in
-    (chain_refusal c.args.lengths.now tag ≡ 0) × (c.in-Value.code ≡ reading_of c.args.dump.now false tag)
-value c =
-    table_value _ _ 2 _ _ _ (ready-value c) (unit-there-value c) c.table_reading-reading.ensures c.in-Value.is
-
-number : (c : In-Value) → to_z w32 (of_z w32 c.in-Value.code) ≡ reading_of c.args.dump.now false (tag_of 2 c.args.unit c.args.atten c.args.param)
-number c = to_z-of_z w32 _ (search rules) ∙ (value c).1
+value : (c : In-Value) → Ready c.args.lengths.now c.args.dump.now → unit_refusal c.args.unit c.args.atten ≡ 0
+    → let tag = tag_of 2 c.args.unit c.args.atten c.args.param in
+    (chain_refusal c.args.lengths.now tag ≡ 0) × (to_z w32 (of_z w32 c.in-Value.code) ≡ reading_of c.args.dump.now false tag)
+value c r u =
+    let v = table_value _ _ 2 _ _ _ r u c.table_reading-reading.ensures c.in-Value.is in
+    (v.0, to_z-of_z w32 _ (search rules) ∙ v.1)
 
 pub returns-then-why-ne-NONE : goal.returns-then-why-ne-NONE
 unfolding code_of
@@ -69,15 +53,17 @@ returns-then-why-ne-NONE c =
 
 pub overflow_cast-result : goal.overflow_cast-result
 overflow_cast-result c =
+    let read = value (goal.at.overflow_cast-result c).In-Value (ready (goal.at.overflow_cast-result c).Else-why-ne-NONE) (unit-there (goal.at.overflow_cast-result c).Else-why-ne-NONE) in
     let good = (code_good _ _ _ _ _ (accepted (goal.at.overflow_cast-result c).Else-why-ne-NONE)).1 in
     let h = tag_in_table 2 _ _ _ good.0 good.1 in
-    cast_fits w16 _ _ (number (goal.at.overflow_cast-result c).In-Value ∙ reading_whole _ _ _ h) (reading_small _ _ _ h)
+    cast_fits w16 _ _ (read.1 ∙ reading_whole _ _ _ h) (reading_small _ _ _ h)
 
 pub returns-in-Value : goal.returns-in-Value
 unfolding code_of
 returns-in-Value c =
-    told_good _ _ Refused (number_is (code_table _ _ _ _ _ _ (accepted (goal.at.returns-in-Value c).Else-why-ne-NONE)) ∙ (value (goal.at.returns-in-Value c).In-Value).0)
-    (ap (λ (z : ℤ). Value (nat_abs z)) (number (goal.at.returns-in-Value c).In-Value))
+    let read = value (goal.at.returns-in-Value c).In-Value (ready (goal.at.returns-in-Value c).Else-why-ne-NONE) (unit-there (goal.at.returns-in-Value c).Else-why-ne-NONE) in
+    told_good _ _ Refused (number_is (code_table _ _ _ _ _ _ (accepted (goal.at.returns-in-Value c).Else-why-ne-NONE)) ∙ read.0)
+    (ap (λ (z : ℤ). Value (nat_abs z)) read.1)
 
 pub returns-in-Refused : goal.returns-in-Refused
 unfolding code_of
