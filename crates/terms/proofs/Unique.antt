@@ -7,8 +7,8 @@ use Rattle.terms.proofs.chip.numbered.Reads as numbered
 use Rattle.terms.proofs.c6_version.rtc_calib_version.Reads as rtc_calib_version
 use Rattle.terms.proofs.refusal.outcome_of.Reads as outcome_of
 use Rattle.terms.proofs.refusal.plain.Reads as plain
-use Rattle.terms.proofs.refusal.raw_refusal.Reads as raw_refusal
-use Rattle.terms.proofs.refusal.unit_refusal.Reads as unit_refusal
+use Rattle.terms.proofs.refusal.check_raw.Reads as check_raw
+use Rattle.terms.proofs.refusal.check_unit.Reads as check_unit
 
 pub u16_of_one : OneAnswer (λ κs z e. z) u16_of.Post
 u16_of_one κs a z z' e e' p q = p ∙ sym q
@@ -25,11 +25,11 @@ plain_one κs a z z' e e' p q = p ∙ sym q
 pub outcome_of_one : OneAnswer (λ κs z e. z) outcome_of.Post
 outcome_of_one κs a z z' e e' p q = p ∙ sym q
 
-pub unit_refusal_one : OneAnswer (λ κs z e. z) unit_refusal.Post
-unit_refusal_one κs a z z' e e' p q = p ∙ sym q
+pub check_unit_one : OneAnswer (λ κs z e. z) check_unit.Post
+check_unit_one κs a z z' e e' p q = p ∙ sym q
 
-pub raw_refusal_one : OneAnswer (λ κs z e. z) raw_refusal.Post
-raw_refusal_one κs a z z' e e' p q = p ∙ sym q
+pub check_raw_one : OneAnswer (λ κs z e. z) check_raw.Post
+check_raw_one κs a z z' e e' p q = p ∙ sym q
 
 pub numbered_one : OneAnswer (λ κs z e. z) numbered.Post
 numbered_one κs a z z' e e' p q = p ∙ sym q
