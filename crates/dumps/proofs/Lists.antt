@@ -3,7 +3,7 @@ use mathlib.Core.Path.{◌≡◌, refl}
 use mathlib.Core.Bool.{true, false, true≢false}
 use mathlib.Core.List.{List, [], ◌∷◌}
 use mathlib.Core.Logic.{inl, inr, ⊎_elim}
-use Prim.Native.Nat.{ℕ, zero, suc, ◌+◌, ◌≤◌, ◌<◌}
+use Prim.Native.Nat.{ℕ, zero, suc, ◌+◌, ◌≤◌, ◌<◌, max}
 use native.Mathlib.Omega.{arith}
 use lib.ListN.{length}
 use lib.Dec.{leb}
@@ -74,20 +74,23 @@ module _ (lengths : List ℕ) where
   pub longest_start : Longest lengths 0 0
   longest_start = record { each = λ block h. absurd (omega arith); one = inl refl }
 
-  module _ (n words : ℕ) (l : Longest lengths n words) where
-    pub longest_more : words < words_of lengths n → Longest lengths (n + 1) (words_of lengths n)
-    longest_more h =
-        record {
-          each = below_more (λ (block : ℕ). words_of lengths block ≤ words_of lengths n) n (λ block b. omega (arith, l.each block b)) (omega arith);
-          one = inr (n, omega arith, refl);
-        }
-
-    pub longest_same : words_of lengths n ≤ words → Longest lengths (n + 1) words
-    longest_same h =
-        record {
-          each = below_more (λ (block : ℕ). words_of lengths block ≤ words) n l.each h;
-          one = ⊎_elim inl (λ p. inr (p.0, omega (arith, p.1), p.2)) l.one;
-        }
+  pub longest_more : (n words : ℕ) → Longest lengths n words → Longest lengths (n + 1) (max words (words_of lengths n))
+  longest_more n words l =
+      either (words_of lengths n) words
+      (λ h.
+      let m : max words (words_of lengths n) ≡ words = omega arith in
+      rw m
+      (record {
+        each = below_more (λ (block : ℕ). words_of lengths block ≤ words) n l.each h;
+        one = ⊎_elim inl (λ p. inr (p.0, omega (arith, p.1), p.2)) l.one;
+      }))
+      (λ h.
+      let m : max words (words_of lengths n) ≡ words_of lengths n = omega arith in
+      rw m
+      (record {
+        each = below_more (λ (block : ℕ). words_of lengths block ≤ words_of lengths n) n (λ block b. omega (arith, l.each block b)) (omega arith);
+        one = inr (n, omega arith, refl);
+      }))
 
   -- where it is above 8 the list is refused
   pub longest_above : (n words : ℕ) → n ≤ 11 → length lengths ≡ 11 → Longest lengths n words → 8 < words → lengths_refusal lengths ≡ 20

@@ -2,18 +2,18 @@
 use mathlib.Core.Path.{sym, ◌∙◌}
 use Rattle.terms.specs.OneAnswer.{OneAnswer}
 use Rattle.dumps.specs.View.{seen}
-use Rattle.dumps.proofs.dump.dump_refusal.Reads as dump_refusal
-use Rattle.dumps.proofs.lengths.lengths_refusal.Reads as lengths_refusal
+use Rattle.dumps.proofs.dump.check_dump.Reads as check_dump
+use Rattle.dumps.proofs.lengths.check_lengths.Reads as check_lengths
 use Rattle.dumps.proofs.lengths.words_of.Reads as words_of
 use Rattle.dumps.proofs.view.board_dump.Reads as board_dump
-use Rattle.dumps.proofs.view.view_refusal.Reads as view_refusal
+use Rattle.dumps.proofs.view.check_view.Reads as check_view
 use Rattle.dumps.proofs.view.view.Reads as view
 
-pub dump_refusal_one : OneAnswer (λ κs z e. z) dump_refusal.Post
-dump_refusal_one κs a z z' e e' p q = p ∙ sym q
+pub check_dump_one : OneAnswer (λ κs z e. z) check_dump.Post
+check_dump_one κs a z z' e e' p q = p ∙ sym q
 
-pub lengths_refusal_one : OneAnswer (λ κs z e. z) lengths_refusal.Post
-lengths_refusal_one κs a z z' e e' p q = p ∙ sym q
+pub check_lengths_one : OneAnswer (λ κs z e. z) check_lengths.Post
+check_lengths_one κs a z z' e e' p q = p ∙ sym q
 
 pub words_of_one : OneAnswer (λ κs z e. z) words_of.Post
 words_of_one κs a z z' e e' p q = p ∙ sym q
@@ -22,8 +22,8 @@ words_of_one κs a z z' e e' p q = p ∙ sym q
 pub board_dump_one : OneAnswer (λ κs z e. seen z) board_dump.Post
 board_dump_one κs a z z' e e' p q = p ∙ sym q
 
-pub view_refusal_one : OneAnswer (λ κs z e. z) view_refusal.Post
-view_refusal_one κs a z z' e e' p q = p ∙ sym q
+pub check_view_one : OneAnswer (λ κs z e. z) check_view.Post
+check_view_one κs a z z' e e' p q = p ∙ sym q
 
 pub view_one : OneAnswer (λ κs z e. seen z) view.Post
 view_one κs a z z' e e' p q = p ∙ sym q

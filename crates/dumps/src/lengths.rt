@@ -1,9 +1,11 @@
 // The list of block lengths: how many words each of the eleven blocks has. It comes with every dump, and is checked with it.
 ghost use Rattle.std.specs.Prelude.{◌≡◌, length};
+ghost use Rattle.terms.specs.Refusal.{outcome_of};
 ghost use Rattle.dumps.specs.Lengths.{words_of, lengths_refusal};
 ghost use Rattle.dumps.specs.Private.{Longest};
 
 use terms::refusal;
+use terms::refusal::{Refusal, plain};
 
 pub const BLOCKS: usize = 11;
 
@@ -20,45 +22,34 @@ fn longest(lengths: &[u8]) -> u8
     requires { length lengths.now ≡ 11 }
     ensures { Longest lengths.now 8 result }
 {
-    let mut words = 0;
-    let mut block = 0;
-    while block < TOGETHER {
-        if words < lengths[block] {
-            words = lengths[block];
-        }
-        block += 1;
+    let mut most = 0;
+    for words in &lengths[..TOGETHER] {
+        most = most.max(*words);
     }
-    words
+    most
 }
 
-// The number of a list's refusal: 20, and 0 where it has eleven lengths of at most 8.
-pub fn lengths_refusal(lengths: &[u8]) -> u8
-    ensures { result ≡ lengths_refusal lengths.now }
+// Good where a list has eleven lengths of at most 8; refusal 20.
+pub fn check_lengths(lengths: &[u8]) -> Result<(), Refusal>
+    ensures { result ≡ outcome_of (lengths_refusal lengths.now) }
 {
     if lengths.len() != BLOCKS {
-        return refusal::LENGTHS;
+        return Err(plain(refusal::LENGTHS));
     }
     if MOST_WORDS < longest(lengths) {
-        return refusal::LENGTHS;
+        return Err(plain(refusal::LENGTHS));
     }
-    let mut block = TOGETHER;
-    while block < BLOCKS {
-        if lengths[block] <= MOST_WORDS {
-            block += 1;
-        } else {
-            return refusal::LENGTHS;
+    for words in &lengths[TOGETHER..] {
+        if MOST_WORDS < *words {
+            return Err(plain(refusal::LENGTHS));
         }
     }
-    refusal::NONE
+    Ok(())
 }
 
 // A block's own length in words, by a list that was checked; none where the list hasn't that block.
 pub fn words_of(lengths: &[u8], block: u8) -> u8
     ensures { result ≡ words_of lengths.now block }
 {
-    let at = block as usize;
-    if lengths.len() <= at {
-        return 0;
-    }
-    lengths[at]
+    lengths.get(block as usize).copied().unwrap_or(0)
 }

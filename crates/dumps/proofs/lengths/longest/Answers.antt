@@ -1,23 +1,22 @@
 -- `dumps::longest` meets its contract: at each turn it has the largest of the blocks before.
-use mathlib.Core.Path.{◌≡◌}
+use mathlib.Core.Path.{◌≡◌, ◌∙◌, ap}
+use Prim.Native.Nat.{max}
 use native.Mathlib.Omega.{arith}
-use Rattle.dumps.proofs.Lists.{longest_start, longest_more, longest_same}
+use lib.ListN.{length-take}
+use lib.Seq.{get_or-take}
+use Rattle.terms.proofs.Extremes.{greatest}
+use Rattle.dumps.proofs.Lists.{longest_start, longest_more}
 use Rattle.dumps.proofs.lengths.longest.Goals as goal
-use Rattle.dumps.proofs.lengths.longest.Goals.{then-words-lengths, else-words-lengths}
 
-pub loop-block-init : goal.loop-block-init
-loop-block-init c = (omega arith, longest_start _)
+pub loop-words-init : goal.loop-words-init
+loop-words-init c = longest_start _
 
-pub loop-block-preserved : goal.loop-block-preserved
-loop-block-preserved c = (
-  omega arith,
-  elim c.if-words-lengths.branch [
-    | then-words-lengths w ↦ rw w.words-is (longest_more _ _ _ c.loop-block.invariant.1 w.if-words-lengths.true)
-    | else-words-lengths w ↦ rw w.words-is (longest_same _ _ _ c.loop-block.invariant.1 w.if-words-lengths.false)
-  ],
-)
+pub loop-words-preserved : goal.loop-words-preserved
+loop-words-preserved c =
+    let at = get_or-take 8 c.args.lengths.now c.loop-words.words-index 0 (omega (arith, length-take 8 c.args.lengths.now)) in
+    rw (c.max-most.ensures ∙ greatest _ _ ∙ ap (max _) at) (longest_more _ _ _ c.loop-words.invariant)
 
 pub returns : goal.returns
 returns c =
-    let all : c.loop-block.block ≡ 8 = omega (arith, c.loop-block.invariant.0) in
-    rw all at c.loop-block.invariant.1
+    let all : c.loop-words.words-index ≡ 8 = omega (arith, c.loop-words-test.false, length-take 8 c.args.lengths.now) in
+    rw all at c.loop-words.invariant
