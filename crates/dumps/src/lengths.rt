@@ -22,7 +22,7 @@ fn longest(lengths: &[u8]) -> u8
     requires { length lengths.now ≡ 11 }
     ensures { Longest lengths.now 8 result }
 {
-    let mut most = 0;
+    let mut most = 0u8;
     for words in &lengths[..TOGETHER] {
         most = most.max(*words);
     }

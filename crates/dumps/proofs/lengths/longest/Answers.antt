@@ -4,7 +4,6 @@ use Prim.Native.Nat.{max}
 use native.Mathlib.Omega.{arith}
 use lib.ListN.{length-take}
 use lib.Seq.{get_or-take}
-use Rattle.terms.proofs.Extremes.{greatest}
 use Rattle.dumps.proofs.Lists.{longest_start, longest_more}
 use Rattle.dumps.proofs.lengths.longest.Goals as goal
 
@@ -14,7 +13,7 @@ loop-words-init c = longest_start _
 pub loop-words-preserved : goal.loop-words-preserved
 loop-words-preserved c =
     let at = get_or-take 8 c.args.lengths.now c.loop-words.words-index 0 (omega (arith, length-take 8 c.args.lengths.now)) in
-    rw (c.max-most.ensures ∙ greatest _ _ ∙ ap (max _) at) (longest_more _ _ _ c.loop-words.invariant)
+    rw (c.max-most.ensures ∙ ap (max _) at) (longest_more _ _ _ c.loop-words.invariant)
 
 pub returns : goal.returns
 returns c =

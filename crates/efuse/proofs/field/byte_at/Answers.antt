@@ -31,4 +31,4 @@ overflow_cast-result c =
     omega arith
 
 pub returns : goal.returns
-returns c = c.bits.ensures ∙ ap (bits_of _ _ _) c.smaller.ensures
+returns c = c.bits.ensures ∙ ap (bits_of _ _ _) c.min.ensures
