@@ -8,10 +8,11 @@ use lib.Dec.{eqb}
 use borrow.Author.Tests.{eq-eqb, ne_eqb}
 use Rattle.terms.specs.declared.chip.MapChip.{MapChip}
 use Rattle.terms.specs.declared.refusal.Refusal.{Refusal}
-use Rattle.terms.specs.Refusal.{refuse, first_of, plain, told}
+use Rattle.std.specs.Prelude.{Result, Ok, Err}
+use Rattle.terms.specs.Refusal.{refuse, or_else, first_of, plain, told, outcome_told, outcome_of}
 use Rattle.terms.specs.Says.{Says}
-use Rattle.terms.proofs.Refusals.{told_good, number_is, Passed, first_stop, first_none}
-use Rattle.terms.proofs.Says.{Paper, told_says}
+use Rattle.terms.proofs.Refusals.{told_good, told_refused, or_else_some, went_well, was_refused, Passed, first_stop, first_none}
+use Rattle.terms.proofs.Says.{told_says}
 use Rattle.dumps.specs.When.{LengthsWhen, not_eleven, above_eight, good_lengths}
 use Rattle.efuse.specs.When.{bad_block, bad_bits, good_place}
 use Rattle.maps.specs.Map.{stray_of, map_record_refusals}
@@ -55,15 +56,14 @@ module _ (lengths map : List ℕ) where
 
     pub told_stop : k < n → Passed numbers n k → {m : ℕ} → m ≡ numbers k → (m ≡ 0 → ⊥)
         → {place : ℕ} → place ≡ cond (eqb m 18) (stray_of map k) 0
-        → record { number = m; «record» = k; place = place } ≡ told_from lengths map first n (first_of numbers 0 n)
+        → Err (record { number = m; «record» = k; place = place }) ≡ outcome_told (told_from lengths map first n (first_of numbers 0 n))
     told_stop h p {m} e some at =
         let stop = first_stop numbers n k h p (sym e) some in
         let bad : of_record m ≡ true = when_of_record ((record_exactly lengths map _ k m).0 (sym e)) some in
-        rw (stop.0, stop.1, bad, at)
+        told_refused _ tt (rw (stop.0, stop.1, bad, at)) some
 
-    pub told_end : n ≤ k → Passed numbers n k → {why : Refusal} → why ≡ plain 0
-        → why ≡ told_from lengths map first n (first_of numbers 0 n)
-    told_end h p e = e ∙ rw (first_none numbers n k h p)
+    pub told_end : n ≤ k → Passed numbers n k → Ok tt ≡ outcome_told (told_from lengths map first n (first_of numbers 0 n))
+    told_end h p = rw (first_none numbers n k h p)
 
   module _ (chip : MapChip) where
     -- it has its number, and one that is of no record tells 0 and 0
@@ -78,24 +78,30 @@ module _ (lengths map : List ℕ) where
     pub told_none : (n : ℕ) → (told_of lengths chip map n).number ≡ 0 → told_of lengths chip map n ≡ plain 0
     told_none n e = ap (told_of lengths chip map) (sym (told_number n) ∙ e) ∙ told_plain refl
 
-    -- as a `return` asks it: of a plain refusal, and of one that comes from a call on the same map
-    pub told_as : {why : Refusal} {n number : ℕ} → why ≡ plain n → of_record n ≡ false → number ≡ n → why ≡ told_of lengths chip map number
-    told_as p e h = p ∙ sym (told_plain e) ∙ ap (told_of lengths chip map) (sym h)
+    -- a number that is of no record is refused as it is without a map
+    pub outcome_plain : (n : ℕ) → of_record n ≡ false → outcome_of n ≡ outcome_told (told_of lengths chip map n)
+    outcome_plain n e = ap outcome_told (sym (told_plain e))
 
-    pub told_same : {why : Refusal} {n number : ℕ} → why ≡ told_of lengths chip map n → number ≡ n → why ≡ told_of lengths chip map number
-    told_same p h = p ∙ ap (told_of lengths chip map) (sym h)
+    -- of two checks in order, of which the first is of no record: what it refuses is refused, and where it went well the second decides
+    module _ (first after : ℕ) where
+      pub told_first : {why : Refusal} → of_record first ≡ false → Err why ≡ outcome_of first
+          → Err why ≡ outcome_told (told_of lengths chip map (or_else first after))
+      told_first plain e = e ∙ outcome_plain first plain ∙ ap (λ n. outcome_told (told_of lengths chip map n)) (sym (or_else_some first after (was_refused _ tt e).0))
 
-    -- what a caller knows of the number
-    pub told_is_number : {why : Refusal} {n : ℕ} → why ≡ told_of lengths chip map n → why.number ≡ n
-    told_is_number e = number_is e ∙ told_number _
+      pub told_second : {v : Unit} {answer : Result Unit Refusal} → Ok v ≡ outcome_of first → answer ≡ outcome_told (told_of lengths chip map after)
+          → answer ≡ outcome_told (told_of lengths chip map (or_else first after))
+      told_second e h = rw (went_well _ tt e).0 h
+
+    -- what a caller knows where the check of a map went well
+    pub told_went_well : {n : ℕ} {v : Unit} → Ok v ≡ outcome_told (told_of lengths chip map n) → n ≡ 0
+    told_went_well e = sym (told_number _) ∙ (went_well _ tt e).0
 
     -- which case an answer is where nothing is refused
-    pub map_good : {A : Type 0} (good : A) (refused : Refusal → A) {number : ℕ} {answer : A} → number ≡ 0 → answer ≡ good
-        → answer ≡ told (told_of lengths chip map number) good refused
-    map_good good refused e h = told_good _ good refused (told_number _ ∙ e) h
+    pub map_good : {A : Type 0} (good : A) {number : ℕ} {answer : Result A Refusal} → number ≡ 0 → answer ≡ Ok good
+        → answer ≡ told (told_of lengths chip map number) good
+    map_good good e h = told_good _ good (told_number _ ∙ e) h
 
     -- and what it says
-    pub map_says : {A B : Type 0} {refusal : A → Refusal} {value : A → B} {zeros : B} {good : B → A} {refused : Refusal → A}
-        → Paper refusal value zeros good refused → (number : ℕ) (v : B)
-        → Says refusal value zeros (told (told_of lengths chip map number) (good v) refused) (told_of lengths chip map number) v
-    map_says paper number v = told_says paper _ (told_none number) v
+    pub map_says : {A : Type 0} (zeros : A) (number : ℕ) (v : A)
+        → Says zeros (told (told_of lengths chip map number) v) (told_of lengths chip map number) v
+    map_says zeros number v = told_says zeros _ (told_none number) v

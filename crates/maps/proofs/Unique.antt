@@ -2,12 +2,12 @@
 -- Assumes nothing.
 use mathlib.Core.Path.{sym, ◌∙◌}
 use Rattle.terms.specs.OneAnswer.{OneAnswer}
-use Rattle.maps.proofs.map.map_refusal.Reads as map_refusal
+use Rattle.maps.proofs.map.check_map_only.Reads as check_map_only
 use Rattle.maps.proofs.map.check_map.Reads as check_map
 use Rattle.maps.proofs.value.record_value.Reads as record_value
 
-pub map_refusal_one : OneAnswer (λ κs z e. z) map_refusal.Post
-map_refusal_one κs a z z' e e' p q = p ∙ sym q
+pub check_map_only_one : OneAnswer (λ κs z e. z) check_map_only.Post
+check_map_only_one κs a z z' e e' p q = p ∙ sym q
 
 pub check_map_one : OneAnswer (λ κs z e. z) check_map.Post
 check_map_one κs a z z' e e' p q = p ∙ sym q

@@ -1,15 +1,15 @@
 // Field maps: which field of the dump has which id, in records of 8 bytes.
 ghost use Rattle.std.specs.Prelude.{◌≡◌, cond, ◌+◌, ◌*◌, ◌≤◌, ◌<◌, eqb, get_or};
-ghost use Rattle.terms.specs.Refusal.{first_of, outcome_told};
+ghost use Rattle.terms.specs.Refusal.{first_of, outcome_told, outcome_of};
 ghost use Rattle.maps.specs.Map.{ids_of, record_byte, field_of, stray_of, exactly, bit_counts, count_refusal, map_record_refusal, map_record_refusals, map_refusal, check_refusal};
 ghost use Rattle.maps.specs.Told.{told_from, told_of};
 
-use dumps::lengths::lengths_refusal;
-use efuse::field::{EfuseField, place_refusal};
+use dumps::lengths::check_lengths;
+use efuse::field::{EfuseField, check_place};
 use terms::bytes::u16_of;
 use terms::chip::MapChip;
 use terms::refusal;
-use terms::refusal::{Outcome, Refusal};
+use terms::refusal::{Refusal, plain};
 
 const RECORD_BYTES: usize = 8;
 
@@ -119,38 +119,35 @@ fn stray(map: &[u8], k: usize) -> u8
     0
 }
 
-// The first thing wrong with record k, which should have that id: 3, 18, 4, 5, 6.
-fn map_record_refusal(lengths: &[u8], map: &[u8], id: usize, k: usize) -> u8
+// Good where record k is, which should have that id; refusals 3, 18, 4, 5, 6, by their numbers alone.
+fn check_record(lengths: &[u8], map: &[u8], id: usize, k: usize) -> Result<(), Refusal>
     requires { (1 ≤ id) × (id ≤ 23) }
-    ensures { result ≡ map_record_refusal lengths.now map.now id k }
+    ensures { result ≡ outcome_of (map_record_refusal lengths.now map.now id k) }
 {
     if record_byte(map, k, 0) as usize != id {
-        return refusal::MAP_ID;
+        return Err(plain(refusal::MAP_ID));
     }
     if stray(map, k) != 0 {
-        return refusal::MAP_BYTE;
+        return Err(plain(refusal::MAP_BYTE));
     }
     let field = field_at(map, k);
-    let place = place_refusal(lengths, field);
-    if place != refusal::NONE {
-        return place;
-    }
-    count_refusal(id, field.bit_count)
+    check_place(lengths, field)?;
+    check_count(id, field.bit_count)
 }
 
-// 6 where a field with that id may not have that bit count.
-fn count_refusal(id: usize, count: u16) -> u8
+// Good where a field with that id may have that bit count; refusal 6.
+fn check_count(id: usize, count: u16) -> Result<(), Refusal>
     requires { (1 ≤ id) × (id ≤ 23) }
-    ensures { result ≡ count_refusal id count }
+    ensures { result ≡ outcome_of (count_refusal id count) }
 {
     let counts = bit_counts(id - 1);
     if count < counts.min {
-        return refusal::BIT_COUNT;
+        return Err(plain(refusal::BIT_COUNT));
     }
     if counts.max < count {
-        return refusal::BIT_COUNT;
+        return Err(plain(refusal::BIT_COUNT));
     }
-    refusal::NONE
+    Ok(())
 }
 
 // The place that record k tells with its number: at 18 that of its first nonzero byte, else 0.
@@ -164,47 +161,41 @@ fn told_place(map: &[u8], k: usize, number: u8) -> u8
     0
 }
 
-// The first thing wrong with the first n records, whose ids should rise from the first one on, and which record it is in.
-fn first_refusal(lengths: &[u8], map: &[u8], first: usize, n: usize) -> Refusal
+// Good where the first n records are, whose ids should rise from the first one on; else the first thing wrong, and which record it is in.
+fn check_records(lengths: &[u8], map: &[u8], first: usize, n: usize) -> Result<(), Refusal>
     requires { (1 ≤ first) × (first + n ≤ 24) }
-    ensures { result ≡ told_from lengths.now map.now first n (first_of (map_record_refusals lengths.now map.now first) 0 n) }
+    ensures { result ≡ outcome_told (told_from lengths.now map.now first n (first_of (map_record_refusals lengths.now map.now first) 0 n)) }
 {
-    let mut k = 0;
-    while k < n {
-        let number = map_record_refusal(lengths, map, first + k, k);
-        if number != refusal::NONE {
-            return Refusal {
-                number,
+    for k in 0..n {
+        if let Err(why) = check_record(lengths, map, first + k, k) {
+            return Err(Refusal {
+                number: why.number,
                 record: k as u8,
-                place: told_place(map, k, number),
-            };
+                place: told_place(map, k, why.number),
+            });
         }
-        k += 1;
     }
-    refusal::plain(refusal::NONE)
+    Ok(())
 }
 
-// The first thing wrong with a map, by a list of block lengths that was checked: 2, then its records first to last.
-pub fn map_refusal(chip: MapChip, lengths: &[u8], map: &[u8]) -> Refusal
-    ensures { result ≡ told_of lengths.now chip map.now (map_refusal lengths.now chip map.now) }
+// The check of a map by a list of block lengths that was checked: 2, then its records first to last.
+pub fn check_map_only(chip: MapChip, lengths: &[u8], map: &[u8]) -> Result<(), Refusal>
+    ensures { result ≡ outcome_told (told_of lengths.now chip map.now (map_refusal lengths.now chip map.now)) }
 {
     let ids = ids_of(chip);
     let first = ids.first;
     let n = ids.len;
     if map.len() != RECORD_BYTES * n {
-        return refusal::plain(refusal::MAP);
+        return Err(plain(refusal::MAP));
     }
-    first_refusal(lengths, map, first, n)
+    check_records(lengths, map, first, n)
 }
 
 // Good where the list is one and the map its chip's: then each of its fields is read without refusal. Else the first thing wrong: 20, 2,
 // then records first to last with 3, 18, 4, 5, 6 within each, and which record it is in.
-pub fn check_map(chip: MapChip, lengths: &[u8], map: &[u8]) -> Outcome
+pub fn check_map(chip: MapChip, lengths: &[u8], map: &[u8]) -> Result<(), Refusal>
     ensures { result ≡ outcome_told (told_of lengths.now chip map.now (check_refusal lengths.now chip map.now)) }
 {
-    let number = lengths_refusal(lengths);
-    if number != refusal::NONE {
-        return Outcome::Refused(refusal::plain(number));
-    }
-    refusal::outcome_of(map_refusal(chip, lengths, map))
+    check_lengths(lengths)?;
+    check_map_only(chip, lengths, map)
 }
