@@ -30,7 +30,7 @@ module _ (lengths : List ℕ) (chip : MapChip) (dump map : List ℕ) where
   fields_of_map n (fields_dump d some) t = absurd (true≢false (sym t ∙ dump_plain d))
   fields_of_map n (fields_map d m) t = m
 
-  -- `fields_refusal`
+  -- `check_fields`
   pub fields_told : Exactly (told_of lengths chip map (fields_refusal lengths chip dump map)) (ToldWhen lengths chip map (FieldsWhen lengths chip dump map))
   fields_told = told_exactly lengths map chip (fields_exactly lengths chip dump map) fields_of_map
 
@@ -40,7 +40,7 @@ module _ (lengths : List ℕ) (chip : MapChip) (dump map : List ℕ) where
     decoding_of_map n (decode_unit d u some) t = absurd (true≢false (sym t ∙ unit_plain u))
     decoding_of_map n (decode_map d u m) t = m
 
-    -- `decoding_refusal`
+    -- `check_decoding`
     pub decoding_told : Exactly (told_of lengths chip map (decoding_refusal lengths chip dump map unit atten))
         (ToldWhen lengths chip map (DecodingWhen lengths chip dump map unit atten))
     decoding_told = told_exactly lengths map chip (decoding_exactly lengths chip dump map unit atten) decoding_of_map

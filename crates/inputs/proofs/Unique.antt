@@ -2,11 +2,11 @@
 -- Assumes nothing.
 use mathlib.Core.Path.{sym, ◌∙◌}
 use Rattle.terms.specs.OneAnswer.{OneAnswer}
-use Rattle.inputs.proofs.input.fields_refusal.Reads as fields_refusal
-use Rattle.inputs.proofs.input.decoding_refusal.Reads as decoding_refusal
+use Rattle.inputs.proofs.input.check_fields.Reads as check_fields
+use Rattle.inputs.proofs.input.check_decoding.Reads as check_decoding
 
-pub fields_refusal_one : OneAnswer (λ κs z e. z) fields_refusal.Post
-fields_refusal_one κs a z z' e e' p q = p ∙ sym q
+pub check_fields_one : OneAnswer (λ κs z e. z) check_fields.Post
+check_fields_one κs a z z' e e' p q = p ∙ sym q
 
-pub decoding_refusal_one : OneAnswer (λ κs z e. z) decoding_refusal.Post
-decoding_refusal_one κs a z z' e e' p q = p ∙ sym q
+pub check_decoding_one : OneAnswer (λ κs z e. z) check_decoding.Post
+check_decoding_one κs a z z' e e' p q = p ∙ sym q
