@@ -3,7 +3,7 @@ ghost use Rattle.std.specs.Prelude.{◌≡◌};
 ghost use Rattle.lut.specs.Row.{row_of};
 
 // A row of the tables: millivolts at a Vref of 1000 and of 1200.
-#[derive(Clone, Copy)]
+#[derive(Clone, Copy, Debug, PartialEq, Eq)]
 pub struct Row(pub u32, pub u32);
 
 // Row k of esp-hal's four tables, a row for each point: those of unit 0, then those of unit 1; zeros past them. As a `match` they are

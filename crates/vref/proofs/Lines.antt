@@ -8,9 +8,8 @@ use native.Mathlib.Omega.{arith}
 use lib.Dec.{leb, eqb}
 use borrow.Author.Tests.{leb-true, le-leb}
 use Rattle.terms.specs.Refusal.{unit_refusal}
-use Rattle.terms.proofs.Refusals.{and_true, by_number_good, by_number_refused, unit_good}
+use Rattle.terms.proofs.Refusals.{and_true, by_number_good, unit_good}
 use Rattle.terms.proofs.Units.{unit_most, entry_at_lem}
-use Rattle.vref.specs.declared.coefficients.Coefficients.{Coefficients}
 use Rattle.vref.specs.Coefficients.{adc1_vref_scale, adc2_vref_scale, adc1_vref_offset, adc2_vref_offset, vref_scale, vref_offset, vref_line}
 use Rattle.vref.specs.Coefficients.{coefficients_for, is_vref_line}
 use Rattle.vref.specs.Private.{packed_of}
@@ -35,14 +34,10 @@ module _ (unit atten : ℕ) where
         let most = vref_most in
         (div-le_of_le-mul 4096 (omega (arith, mul-le-mul v most.0)), omega arith)
 
-    -- which case it is
-    pub line_good : unit_refusal unit atten ≡ 0 → vref_line unit atten vref ≡ coefficients_for unit atten vref
+    -- for a unit and an attenuation that there are it is the line
+    line_good : unit_refusal unit atten ≡ 0 → vref_line unit atten vref ≡ coefficients_for unit atten vref
     unfolding coefficients_for
     line_good e = sym (by_number_good _ _ _ e)
-
-    pub line_none : (unit_refusal unit atten ≡ 0 → ⊥) → record { a = 0; b = 0 } ≡ coefficients_for unit atten vref
-    unfolding coefficients_for
-    line_none some = sym (by_number_refused {A = Coefficients} _ _ _ some)
 
     pub line_is : unit ≤ 1 → atten ≤ 3 → coefficients_for unit atten vref ≡ vref_line unit atten vref
     line_is u h = sym (line_good (unit_good unit atten u h))

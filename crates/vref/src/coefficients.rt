@@ -3,8 +3,7 @@ ghost use Rattle.std.specs.Prelude.{◌≡◌, ◌+◌, ◌*◌, ◌%◌, ◌≤
 ghost use Rattle.vref.specs.Coefficients.{vref_scale, vref_offset, coefficients_for, is_vref_line};
 ghost use Rattle.vref.specs.Private.{packed_of};
 
-use terms::refusal;
-use terms::refusal::unit_refusal;
+use terms::refusal::{LAST_ATTEN, LAST_UNIT, check_unit};
 
 const ADC_12_BIT_RES: u32 = 4096;
 
@@ -19,7 +18,7 @@ pub const LARGEST_VREF: u32 = 1205;
 const HALF: u64 = 4294967296;
 
 // A line's coefficients.
-#[derive(Clone, Copy)]
+#[derive(Clone, Copy, Debug, PartialEq, Eq)]
 pub struct Coefficients {
     pub a: u32,
     pub b: u32,
@@ -33,7 +32,7 @@ pub struct Atten(pub u32, pub u32);
 fn joined(low: u32, high: u32) -> u64
     ensures { result ≡ high * 4294967296 + low }
 {
-    high as u64 * HALF + (low as u64)
+    high as u64 * HALF + low as u64
 }
 
 // ADC1_VREF_ATTEN_SCALE with ADC1_VREF_ATTEN_OFFSET, then ADC2's: an entry for each unit × 4 + attenuation. As a `match` they are constant
@@ -54,6 +53,7 @@ fn vref_atten(k: u8) -> u64
 }
 
 // The scale and the offset of a unit at an attenuation.
+#[tactic(auto, using(crate::proofs::Halves::halves, crate::proofs::Lines::vref_most, crate::proofs::Lines::packed_is))]
 fn vref_entry(unit: u8, atten: u8) -> Atten
     requires { (unit ≤ 1) × (atten ≤ 3) }
     ensures { (result.0 ≡ vref_scale unit atten) × (result.1 ≡ vref_offset unit atten) }
@@ -63,29 +63,27 @@ fn vref_entry(unit: u8, atten: u8) -> Atten
 }
 
 // a and b from Vref in millivolts; zeros where there is no such unit or attenuation.
+#[tactic(auto, using(crate::proofs::Lines::vref_most, terms::proofs::Refusals::unit_inside), unfolding(crate::specs::Coefficients::coefficients_for))]
 pub fn vref_line(unit: u8, atten: u8, vref: u16) -> Coefficients
     ensures { result ≡ coefficients_for unit atten vref }
 {
-    if unit_refusal(unit, atten) != refusal::NONE {
+    if check_unit(unit, atten).is_err() {
         return Coefficients { a: 0, b: 0 };
     }
-    let entry = vref_entry(unit, atten);
-    let scale = entry.0;
-    let offset = entry.1;
+    let Atten(scale, offset) = vref_entry(unit, atten);
     Coefficients {
-        a: (vref as u64 * (scale as u64) / (ADC_12_BIT_RES as u64)) as u32,
+        a: (vref as u64 * scale as u64 / ADC_12_BIT_RES as u64) as u32,
         b: offset,
     }
 }
 
 // Whether a and b are those that Vref gives; none are where there is no such unit, attenuation or Vref. They are compared as one number.
+#[tactic(auto, using(crate::proofs::Lines::product_small, crate::proofs::Lines::there_is, crate::proofs::Lines::by_line, crate::proofs::Lines::no_line, crate::proofs::Halves::joined_same))]
 pub fn is_vref_line(unit: u8, atten: u8, vref: u32, a: u32, b: u32) -> bool
     ensures { result ≡ is_vref_line unit atten vref a b }
 {
-    if (unit <= refusal::LAST_UNIT) & (atten <= refusal::LAST_ATTEN) & (vref <= LARGEST_VREF) {
-        let entry = vref_entry(unit, atten);
-        let scale = entry.0;
-        let offset = entry.1;
+    if (unit <= LAST_UNIT) & (atten <= LAST_ATTEN) & (vref <= LARGEST_VREF) {
+        let Atten(scale, offset) = vref_entry(unit, atten);
         return joined(a, b) == joined(vref * scale / ADC_12_BIT_RES, offset);
     }
     false
