@@ -1,4 +1,3 @@
-pub mod Decoded
 pub mod Record
 pub mod VrefRecords
 pub mod When

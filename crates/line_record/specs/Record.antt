@@ -37,3 +37,7 @@ good_record r = converter_in_ranges r && fits_source r.source r
 -- 10: "line record outside its ranges"; "Refusals: 10 covers this and an attenuation above 3"
 unfoldable pub record_refusal : LineRecord → ℕ
 record_refusal r = refuse (not (good_record r)) 10 0
+
+-- "decoding answers a record or one number": what document 01 has in a record's place beside a number, zeros
+abbrev pub no_record : LineRecord
+no_record = record { coeff_a = 0; coeff_b = 0; vref = 0; unit = 0; atten = 0; source = TwoPoint }

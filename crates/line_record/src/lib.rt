@@ -1,5 +1,4 @@
-// The line record: what converting and filling go by, and the answer of a decoding.
+// The line record: what converting and filling go by.
 #![tactic(auto)]
 
-pub mod decoded;
 pub mod record;
