@@ -1,15 +1,15 @@
 -- Laws of converting: which case a conversion is, and that no answer is above 12,285. Assumes nothing.
-use mathlib.Core.Path.{◌≡◌, sym, ◌∙◌, ap}
+use mathlib.Core.Path.{◌≡◌, refl, sym}
 use Prim.Native.Nat.{ℕ, ◌≤◌}
 use native.Mathlib.Omega.{arith}
 use Rattle.terms.specs.declared.quantity.Millivolt.{Millivolt}
 use Rattle.terms.specs.declared.refusal.Refusal.{Refusal}
-use Rattle.terms.specs.declared.voltage.Voltage.TheVariants.{Value, Refused}
-use Rattle.terms.specs.Refusal.{plain}
-use Rattle.terms.specs.Voltage.{value_of}
-use Rattle.terms.proofs.Order.{zero_or}
-use Rattle.terms.proofs.Refusals.{by_number_good, by_number_refused, answered_refused}
+use Rattle.std.specs.Prelude.{Ok, Err}
+use Rattle.terms.specs.Refusal.{plain, outcome_of, value_of}
+use Rattle.terms.proofs.Order.{either, zero_or}
+use Rattle.terms.proofs.Refusals.{by_number_refused, answered_good, answered_refused, was_refused, or_else_some, raw_good, raw_above}
 use Rattle.line_record.specs.declared.record.LineRecord.{LineRecord}
+use Rattle.line_record.specs.Record.{record_refusal}
 use Rattle.line_record.proofs.Records.{record_sound}
 use Rattle.line.specs.Convert.{answer_at, convert_refusal, convert_of}
 use Rattle.line.proofs.Answers.{answer_most}
@@ -18,16 +18,25 @@ use Rattle.line.proofs.Says.{convert_says}
 
 module _ (r : LineRecord) (raw : ℕ) where
   -- which case a conversion is, as a `return` asks it
-  pub convert_voltage : {mv : ℕ} → convert_refusal r raw ≡ 0 → mv ≡ answer_at r raw → Value (record { 0 = mv }) ≡ convert_of r raw
+  pub convert_voltage : {mv : ℕ} → convert_refusal r raw ≡ 0 → mv ≡ answer_at r raw → Ok (record { 0 = mv }) ≡ convert_of r raw
   unfolding convert_of
-  convert_voltage e v = sym (by_number_good _ _ _ e ∙ ap (λ (n : ℕ). Value (record { 0 = n })) (sym v))
+  convert_voltage e v = answered_good _ _ e (rw v)
 
-  pub convert_refused : {why : Refusal} {n : ℕ} → why ≡ plain n → n ≡ convert_refusal r raw → (n ≡ 0 → ⊥) → Refused why ≡ convert_of r raw
-  unfolding convert_of
-  convert_refused p e h = answered_refused _ _ Refused p e h
+  pub refused_record : {why : Refusal} → Err why ≡ outcome_of (record_refusal r) → Err why ≡ convert_of r raw
+  unfolding convert_of convert_refusal
+  refused_record e =
+      let was = was_refused (plain (record_refusal r)) tt e in
+      answered_refused _ _ was.1 (sym (or_else_some _ _ was.0)) was.0
+
+  pub refused_raw : record_refusal r ≡ 0 → (convert_refusal r raw ≡ 0 → ⊥) → Err (plain 8) ≡ convert_of r raw
+  unfolding convert_of convert_refusal
+  refused_raw good some =
+      either raw 4095
+      (λ h. absurd (some (rw (good, raw_good raw h))))
+      (λ h. answered_refused _ _ refl (rw (good, raw_above raw h)) (omega arith))
 
   -- no answer is above 12,285
-  pub convert_most : (value_of (convert_of r raw)).0 ≤ 12285
+  pub convert_most : (value_of (record { 0 = 0 }) (convert_of r raw)).0 ≤ 12285
   convert_most =
       rw (convert_says r raw).value_is
       (zero_or (convert_refusal r raw)

@@ -1,9 +1,9 @@
 -- Document 01, "ESP32 line rules": line, blend and lookup; what a record gives at a count, with the refusals of "Converting: 10, then 8".
 -- In esp-hal: `calculate_voltage_linear`, `interpolate_two_points` and `adc_val` of calibration/line/esp32.rs, whose source is
 -- ESP-IDF's components/esp_adc/esp32/adc_cali_line_fitting.c, from line 155 on.
-use Rattle.std.specs.Prelude.{Bool, cond, ◌&&◌, ℕ, ◌+◌, ◌*◌, ◌-◌, ◌/◌, leb}
-use Rattle.terms.specs.declared.voltage.Voltage.{Voltage}
-use Rattle.terms.specs.declared.voltage.Voltage.TheVariants.{Value, Refused}
+use Rattle.std.specs.Prelude.{Bool, cond, ◌&&◌, ℕ, ◌+◌, ◌*◌, ◌-◌, ◌/◌, leb, Result}
+use Rattle.terms.specs.declared.quantity.Millivolt.{Millivolt}
+use Rattle.terms.specs.declared.refusal.Refusal.{Refusal}
 use Rattle.terms.specs.Refusal.{or_else, answered, raw_refusal}
 use Rattle.line_record.specs.declared.record.LineRecord.{LineRecord}
 use Rattle.line_record.specs.Record.{uses_lookup, record_refusal}
@@ -44,5 +44,5 @@ convert_refusal r raw =
     (raw_refusal raw)
 
 -- converting a count: its millivolts, or its refusal
-unfoldable pub convert_of : LineRecord → ℕ → Voltage
-convert_of r raw = answered (convert_refusal r raw) (Value (record { 0 = answer_at r raw })) Refused
+unfoldable pub convert_of : LineRecord → ℕ → Result Millivolt Refusal
+convert_of r raw = answered (convert_refusal r raw) (record { 0 = answer_at r raw })
