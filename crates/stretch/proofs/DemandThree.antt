@@ -2,9 +2,10 @@
 use mathlib.Core.Path.{◌≡◌, refl, sym, ◌∙◌, ap}
 use Prim.Native.Nat.{ℕ, ◌≤◌}
 use native.Mathlib.Omega.{arith}
-use Rattle.terms.specs.declared.voltage.Voltage.{Voltage as Answer}
-use Rattle.terms.specs.declared.voltage.Voltage.TheVariants.{Value as Voltage}
-use Rattle.terms.specs.Voltage.{value_of}
+use Rattle.std.specs.Prelude.{Result, Ok}
+use Rattle.terms.specs.declared.quantity.Millivolt.{Millivolt}
+use Rattle.terms.specs.declared.refusal.Refusal.{Refusal}
+use Rattle.terms.specs.Refusal.{value_of}
 use Rattle.terms.specs.When.{good_raw}
 use Rattle.line_record.specs.declared.record.LineRecord.{LineRecord}
 use Rattle.line_record.specs.Record.{record_refusal}
@@ -20,11 +21,11 @@ use Rattle.stretch.proofs.Stretches.{covered_below, walked_length, walked_at}
 
 module _ (cal : LineRecord) (accepted : record_refusal cal ≡ 0) where
   -- a count up to 4095 isn't refused
-  voltage : {mv : ℕ} (k : ℕ) → k ≤ 4095 → mv ≡ answer_at cal k → convert_of cal k ≡ Voltage (record { 0 = mv })
+  voltage : {mv : ℕ} (k : ℕ) → k ≤ 4095 → mv ≡ answer_at cal k → convert_of cal k ≡ Ok (record { 0 = mv })
   voltage k h e = sym (convert_voltage cal k ((convert_exactly cal k 0).1 (convert_raw ((record_exactly cal 0).0 accepted) (good_raw h))) e)
 
   answer_is : (k : ℕ) → k ≤ 4095 → millivolts cal k ≡ answer_at cal k
-  answer_is k h = ap (λ (v : Answer). (value_of v).0) (voltage k h refl)
+  answer_is k h = ap (λ (v : Result Millivolt Refusal). (value_of (record { 0 = 0 }) v).0) (voltage k h refl)
 
   pub demand_three : DemandThree cal
   demand_three =

@@ -14,9 +14,9 @@ use Rattle.line_record.specs.Record.{uses_lookup, record_refusal}
 use Rattle.line.specs.Lookup.{lookup_sum, lookup_voltage, lut_slope}
 use Rattle.line.specs.Convert.{line_voltage, blend_of, beyond_line}
 use Rattle.stretch.specs.Fill.{answers_from}
-use Rattle.stretch.specs.Private.{along, line_slope, InStep, segment_left}
+use Rattle.stretch.specs.Private.{along, line_slope, InStep, Blended, segment_left}
 use Rattle.lut.proofs.Sums.{voltage_is, sum_most, sum_along}
-use Rattle.line.proofs.Answers.{beyond_yes, beyond_plain, beyond_below, answer_line, answer_blend, answer_upper, line_sum_most}
+use Rattle.line.proofs.Answers.{beyond_line_lem, beyond_yes, beyond_plain, beyond_below, answer_line, answer_blend, answer_upper, line_sum_most}
 use Rattle.line_record.proofs.Records.{record_converter, record_sound}
 use Rattle.line.proofs.Lookups.{has_count, slope_some}
 
@@ -50,6 +50,9 @@ module _ (r : LineRecord) (first : ℕ) {s : Slope} (p : s ≡ line_slope r firs
   unfolding line_voltage
   line_voltage_lem k = rw p (omega (arith, mul-add r.coeff_a first k))
 
+  pub line_tab : (n : ℕ) → tab (λ k. along s k / 65536) n ≡ tab (λ k. line_voltage r (first + k)) n
+  line_tab n = tab_same _ _ _ (λ k h. line_voltage_lem k)
+
   pub line_fits : (n : ℕ) → record_refusal r ≡ 0 → first + n ≤ 4096 → along s n < 65536 * 65536
   line_fits n good h =
       rw p (omega (arith, mul-add r.coeff_a first n, line_sum_most r (record_sound r good) (first + n) h))
@@ -75,6 +78,10 @@ module _ (r : LineRecord) (first n : ℕ) {s : Slope} (p : s ≡ lut_slope r fir
         sum_most r.unit r.vref (first + n) (omega arith) ranges.vref_most (omega arith),
       )
 
+  pub blended : {line : Slope} → line ≡ line_slope r first → first < 2944 → Blended line s (first - 2880) n
+  blended q below =
+      record { counts = omega arith; line_fits = line_fits r first q n step.good (omega arith); lut_fits = lut_fits }
+
   -- from 2944 on its quotients are the answers
   pub upper_tab : uses_lookup r ≡ true → 2944 ≤ first → tab (λ k. along s k / 12800) n ≡ answers_from r first n
   upper_tab uses l =
@@ -90,6 +97,14 @@ module _ (r : LineRecord) (first n : ℕ) {s : Slope} (p : s ≡ lut_slope r fir
       let gone : first - 2880 + k ≡ first + k - 2880 = omega arith in
       rw (line_voltage_lem r first q k, lut_voltage k (omega arith), gone)
       (sym (answer_blend r (first + k) uses (omega arith) (omega arith))))
+
+-- where a count is past the line, its segment goes up to the next point
+pub in_step : (r : LineRecord) (first n : ℕ) → beyond_line r first ≡ true → record_refusal r ≡ 0 → first ≤ 4095 → n ≤ segment_left r first
+    → (uses_lookup r ≡ true) × InStep r first n
+in_step r first n past good upto left =
+    let p = beyond_line_lem r first past in
+    let s = segment_step r first p.0 p.1 in
+    (p.0, record { good = good; from = p.1; upto = upto; room = omega arith })
 
 -- where a count isn't past the line, none of its segment is
 module _ (r : LineRecord) (first n : ℕ) (none : beyond_line r first ≡ false) (left : n ≤ segment_left r first) where

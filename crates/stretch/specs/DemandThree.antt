@@ -1,7 +1,6 @@
 -- Demand 3, whole: what holds of every record that `check_record` accepts. Proved in proofs/DemandThree.
-use Rattle.std.specs.Prelude.{◌≡◌, true, false, List, ℕ, ◌≤◌, min, max, length, get_or}
-use Rattle.terms.specs.declared.voltage.Voltage.TheVariants.{Value as Voltage}
-use Rattle.terms.specs.Voltage.{value_of}
+use Rattle.std.specs.Prelude.{◌≡◌, true, false, List, ℕ, ◌≤◌, min, max, length, get_or, Ok}
+use Rattle.terms.specs.Refusal.{value_of}
 use Rattle.line_record.specs.declared.record.LineRecord.{LineRecord}
 use Rattle.line_record.specs.Record.{uses_lookup}
 use Rattle.line.specs.Lookup.{lookup_voltage}
@@ -10,7 +9,7 @@ use Rattle.stretch.specs.Stretches.{Stretch, walked, covered}
 
 -- what `convert` answers at a count, in millivolts
 abbrev pub millivolts : LineRecord → ℕ → ℕ
-millivolts cal raw = (value_of (convert_of cal raw)).0
+millivolts cal raw = (value_of (record { 0 = 0 }) (convert_of cal raw)).0
 
 pub record DemandThree (cal : LineRecord) : Type 0 where
   -- "the table has 4,096 numbers, all stretches have one record, and each is lent as the table's own part that starts at its first
@@ -18,7 +17,7 @@ pub record DemandThree (cal : LineRecord) : Type 0 where
   pub long : (ss : List Stretch) (table : List ℕ) → length table ≡ 4096 → length (walked cal ss table) ≡ 4096
   -- at each count that a stretch has, it holds what `convert` answers there, which isn't a refusal
   pub filled_in : (ss : List Stretch) (table : List ℕ) → length table ≡ 4096
-      → (k : ℕ) → covered ss k ≡ true → convert_of cal k ≡ Voltage (record { 0 = get_or (walked cal ss table) k 0 })
+      → (k : ℕ) → covered ss k ≡ true → convert_of cal k ≡ Ok (record { 0 = get_or (walked cal ss table) k 0 })
   -- and "nothing else" is written: any other number is the one that was there
   pub left_alone : (ss : List Stretch) (table : List ℕ) → length table ≡ 4096
       → (k : ℕ) → covered ss k ≡ false → get_or (walked cal ss table) k 0 ≡ get_or table k 0

@@ -12,27 +12,26 @@ ghost use Rattle.stretch.specs.Private.{line_slope, InStep, segment_left};
 use crate::ramp::{blend_ramps, ramp};
 use line::convert::{COEFF_A_ROUND, COEFF_A_SCALE, LUT_HIGH_THRESH, beyond_line};
 use line::lookup::{LUT_ADC_STEP_SIZE, LUT_LOW_THRESH, LUT_SCALE, Slope, lut_slope};
-use line_record::record::{LineRecord, record_refusal, uses_lookup};
+use line_record::record::{LineRecord, check_record, uses_lookup};
 use terms::quantity::Count;
-use terms::refusal;
-use terms::refusal::Outcome;
+use terms::refusal::{Refusal, STRETCH, plain};
 
 const COUNTS: u32 = 4096;
 
 // The line's slope from a count on; its divisor is `COEFF_A_SCALE`.
+#[tactic(auto, using(line::proofs::Answers::line_sum_most, line_record::proofs::Records::record_sound))]
 fn line_slope(cal: LineRecord, raw: u32) -> Slope
     requires { (record_refusal cal ≡ 0) × (raw ≤ 4096) }
     ensures { result ≡ line_slope cal raw }
 {
-    let a = cal.coeff_a;
-    let b = cal.coeff_b;
     Slope {
-        sum: a * raw + COEFF_A_ROUND + COEFF_A_SCALE * b,
-        rise: a,
+        sum: cal.coeff_a * raw + COEFF_A_ROUND + COEFF_A_SCALE * cal.coeff_b,
+        rise: cal.coeff_a,
     }
 }
 
 // The line's voltages.
+#[tactic(auto, using(crate::proofs::Segments::line_fits))]
 fn fill_line(cal: LineRecord, first: u32, out: &mut [u16])
     requires { (record_refusal cal ≡ 0) × (first + length out.old ≤ 4096) }
     ensures { out.new ≡ tab (λ k. line_voltage cal (first + k)) (length out.old) }
@@ -41,6 +40,7 @@ fn fill_line(cal: LineRecord, first: u32, out: &mut [u16])
 }
 
 // The answers from 2880 on, where the lookup is used, at most up to the next point.
+#[tactic(auto, using(crate::proofs::Segments::lut_fits))]
 fn fill_step(cal: LineRecord, first: u32, out: &mut [u16])
     requires { (uses_lookup cal ≡ true) × InStep cal first (length out.old) }
     ensures { out.new ≡ answers_from cal first (length out.old) }
@@ -48,41 +48,37 @@ fn fill_step(cal: LineRecord, first: u32, out: &mut [u16])
     let lut = lut_slope(cal, first);
     if first < LUT_HIGH_THRESH {
         blend_ramps(line_slope(cal, first), lut, first - LUT_LOW_THRESH, out);
-        return;
+    } else {
+        ramp(lut, LUT_SCALE, out);
     }
-    ramp(lut, LUT_SCALE, out);
 }
 
 // How many counts from a given one on are in its segment. Points stand at multiples of 64.
+#[tactic(auto, unfolding(crate::specs::Private::segment_left))]
 fn segment_left(cal: LineRecord, count: u32) -> u32
     requires { count ≤ 4096 }
     ensures { result ≡ segment_left cal count }
 {
-    if uses_lookup(cal) {
-        if count < LUT_LOW_THRESH {
-            return LUT_LOW_THRESH - count;
-        }
-        return LUT_ADC_STEP_SIZE - count % LUT_ADC_STEP_SIZE;
+    if !uses_lookup(cal) {
+        COUNTS - count
+    } else if count < LUT_LOW_THRESH {
+        LUT_LOW_THRESH - count
+    } else {
+        LUT_ADC_STEP_SIZE - count % LUT_ADC_STEP_SIZE
     }
-    COUNTS - count
 }
 
 // The answers of a stretch that lies in one segment.
+#[tactic(auto, using(crate::proofs::Segments::segment_ends))]
 fn fill_segment(cal: LineRecord, first: u32, out: &mut [u16])
     requires { (record_refusal cal ≡ 0) × (first ≤ 4095) × (length out.old ≤ segment_left cal first) }
     ensures { out.new ≡ answers_from cal first (length out.old) }
 {
     if beyond_line(cal, first) {
         fill_step(cal, first, out);
-        return;
+    } else {
+        fill_line(cal, first, out);
     }
-    fill_line(cal, first, out);
-}
-
-fn smaller(a: usize, b: usize) -> usize
-    ensures { result ≡ min a b }
-{
-    if a <= b { a } else { b }
 }
 
 // The answers of a stretch, segment by segment.
@@ -93,40 +89,34 @@ fn fill_answers(cal: LineRecord, first: u32, out: &mut [u16])
     let mut at = 0;
     while at < out.len() {
         let count = first + (at as u32);
-        let end = at + smaller(segment_left(cal, count) as usize, out.len() - at);
+        let end = at + (segment_left(cal, count) as usize).min(out.len() - at);
         fill_segment(cal, count, &mut out[at..end]);
         at = end;
     }
 }
 
-// The first thing wrong with a fill: 10, 11. No sum is made that might wrap.
-fn fill_refusal(cal: LineRecord, first: u32, n: usize) -> u8
-    ensures { result ≡ fill_refusal cal first n }
+// What is wrong with a fill: 10, 11. No sum is made that might wrap.
+#[tactic(auto, using(crate::proofs::Fills::record_refused, crate::proofs::Fills::stretch_good, crate::proofs::Fills::stretch_refused))]
+fn check_fill(cal: LineRecord, first: u32, n: usize) -> Result<(), Refusal>
+    ensures { result ≡ outcome_of (fill_refusal cal first n) }
 {
-    let number = record_refusal(cal);
-    if number != refusal::NONE {
-        return number;
+    check_record(cal)?;
+    if first <= COUNTS && n <= (COUNTS - first) as usize {
+        Ok(())
+    } else {
+        Err(plain(STRETCH))
     }
-    if COUNTS < first {
-        return refusal::STRETCH;
-    }
-    if ((COUNTS - first) as usize) < n {
-        return refusal::STRETCH;
-    }
-    refusal::NONE
 }
 
 // Writes the answers of the counts from a first one on, as many as the lent list has numbers; none is fine. A refusal, 10, 11, leaves
 // the list as it was.
-pub fn fill(cal: LineRecord, first: Count, out: &mut [u16]) -> Outcome
+#[tactic(auto, using(crate::proofs::Fills::filled_good, crate::proofs::Fills::filled_refused))]
+pub fn fill(cal: LineRecord, first: Count, out: &mut [u16]) -> Result<(), Refusal>
     ensures answer { result ≡ outcome_of (fill_refusal cal first.0 (length out.old)) }
     ensures lent { out.new ≡ filled cal first.0 out.old }
 {
-    let from = first.0 as u32;
-    let number = fill_refusal(cal, from, out.len());
-    if number != refusal::NONE {
-        return Outcome::Refused(refusal::plain(number));
-    }
-    fill_answers(cal, from, out);
-    Outcome::Good
+    let first = first.0 as u32;
+    check_fill(cal, first, out.len())?;
+    fill_answers(cal, first, out);
+    Ok(())
 }

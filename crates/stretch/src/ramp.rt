@@ -15,13 +15,10 @@ pub(crate) fn ramp(slope: Slope, divisor: u32, out: &mut [u16])
     requires { (0 < divisor) × (divisor ≤ 65536) × (along slope (length out.old) < 65536 * divisor) }
     ensures { out.new ≡ tab (λ k. along slope k / divisor) (length out.old) }
 {
-    let rise = slope.rise;
     let mut sum = slope.sum;
-    let mut i = 0;
-    while i < out.len() {
-        out[i] = (sum / divisor) as u16;
-        sum += rise;
-        i += 1;
+    for place in out.iter_mut() {
+        *place = (sum / divisor) as u16;
+        sum += slope.rise;
     }
 }
 
@@ -30,19 +27,15 @@ pub(crate) fn blend_ramps(line: Slope, lut: Slope, x: u32, out: &mut [u16])
     requires { Blended line lut x (length out.old) }
     ensures { out.new ≡ tab (λ k. blend_of (along line k / 65536) (along lut k / 12800) (x + k)) (length out.old) }
 {
-    let line_rise = line.rise;
-    let lut_rise = lut.rise;
     let mut line_sum = line.sum;
     let mut lut_sum = lut.sum;
     let mut gone = x;
-    let mut i = 0;
-    while i < out.len() {
-        let line = (line_sum / COEFF_A_SCALE) as u16;
-        let lut = (lut_sum / LUT_SCALE) as u16;
-        out[i] = interpolate_two_points(line, lut, (BLEND - gone) as u8, gone as u8) as u16;
-        line_sum += line_rise;
-        lut_sum += lut_rise;
+    for place in out.iter_mut() {
+        let y1 = (line_sum / COEFF_A_SCALE) as u16;
+        let y2 = (lut_sum / LUT_SCALE) as u16;
+        *place = interpolate_two_points(y1, y2, (BLEND - gone) as u8, gone as u8) as u16;
+        line_sum += line.rise;
+        lut_sum += lut.rise;
         gone += 1;
-        i += 1;
     }
 }
