@@ -1,5 +1,7 @@
-// Reading a file by its name.
-ghost use Rattle.io.specs.Counts.{IsPrefixLen};
+// Reading a file by its name. `Ok(None)` is a name that no file has.
+ghost use Rattle.std.specs.Prelude.{IfOk, IfSome};
+ghost use Rattle.std.specs.Counts.{IsPrefixLen};
+ghost use Rattle.std.specs.Io.{ReadsAtMost};
 
 use crate::read::read_full;
 use crate::told;
@@ -7,28 +9,20 @@ use std::fs;
 use std::io::{Error, ErrorKind, Read, Write};
 use std::rt::Files;
 
-// What a name gave: the file, open; or whether there is no file of that name, and whether it couldn't be opened, which has been told.
-#[derive(Drop)]
-pub struct Opened<F> {
-    pub file: Option<F>,
-    pub missing: bool,
-    pub unread: bool,
-}
-
-// How many bytes of the room a file fills; whether it is missing; and whether it couldn't be read, which has been told.
-#[derive(Clone, Copy)]
-pub struct Loaded {
-    pub len: usize,
-    pub missing: bool,
-    pub unread: bool,
-}
+// A file that is there and couldn't be read, which has been told.
+#[derive(Clone, Copy, Debug, PartialEq, Eq)]
+pub struct Unread;
 
 // Opens a file for reading. A name is text for std, and no other opens anything.
 pub fn open_named<R: Files>(rt: &R, path: &[u8]) -> Result<R::File, Error> {
-    match std::str::from_utf8(path) {
-        Ok(path) => fs::open(rt, path),
-        Err(_) => Err(Error::from(ErrorKind::InvalidInput)),
-    }
+    let path = std::str::from_utf8(path).map_err(|_| Error::from(ErrorKind::InvalidInput))?;
+    fs::open(rt, path)
+}
+
+// Tells a file that can't be read: `unread`, and the system's reason.
+fn tell_unread<W: Write>(error: &Error, unread: &[u8], errors: &mut W) -> Unread {
+    told::tell(errors, unread, error);
+    Unread
 }
 
 // Opens a file. One that is there and can't be opened is told: `unread`, and the system's reason.
@@ -37,27 +31,11 @@ pub fn open<R: Files, W: Write>(
     path: &[u8],
     unread: &[u8],
     errors: &mut W,
-) -> Opened<R::File> {
+) -> Result<Option<R::File>, Unread> {
     match open_named(rt, path) {
-        Ok(file) => Opened {
-            file: Some(file),
-            missing: false,
-            unread: false,
-        },
-        Err(error) => not_opened(error, unread, errors),
-    }
-}
-
-// What a name gave that couldn't be opened.
-fn not_opened<F, W: Write>(error: Error, unread: &[u8], errors: &mut W) -> Opened<F> {
-    let missing = error.kind() == ErrorKind::NotFound;
-    if !missing {
-        told::tell(errors, unread, &error);
-    }
-    Opened {
-        file: None,
-        missing,
-        unread: !missing,
+        Ok(file) => Ok(Some(file)),
+        Err(error) if error.kind() == ErrorKind::NotFound => Ok(None),
+        Err(error) => Err(tell_unread(&error, unread, errors)),
     }
 }
 
@@ -67,42 +45,24 @@ fn read_told<F: Read, W: Write>(
     room: &mut [u8],
     unread: &[u8],
     errors: &mut W,
-) -> Loaded
-    ensures { IsPrefixLen result.len room.new }
+) -> Result<usize, Unread>
+    ensures { ReadsAtMost result room.new }
 {
-    let reading = read_full(file, room);
-    if let Some(error) = reading.failure {
-        told::tell(errors, unread, &error);
-        return Loaded {
-            len: 0,
-            missing: false,
-            unread: true,
-        };
-    }
-    Loaded {
-        len: reading.len,
-        missing: false,
-        unread: false,
-    }
+    read_full(file, room).map_err(|torn| tell_unread(&torn.error, unread, errors))
 }
 
-// Reads a file from its start. A missing one is empty; one that can't be read is told likewise.
+// Reads a file from its start, and answers how many bytes of the room it fills. One that can't be read is told likewise.
 pub fn load<R: Files, W: Write>(
     rt: &R,
     path: &[u8],
     room: &mut [u8],
     unread: &[u8],
     errors: &mut W,
-) -> Loaded
-    ensures { IsPrefixLen result.len room.new }
+) -> Result<Option<usize>, Unread>
+    ensures { IfOk result (λ found. IfSome found (λ len. IsPrefixLen len room.new)) }
 {
-    let opened = open(rt, path, unread, errors);
-    match opened.file {
-        Some(mut file) => { read_told(&mut file, room, unread, errors) }
-        None => Loaded {
-            len: 0,
-            missing: opened.missing,
-            unread: opened.unread,
-        },
+    match open(rt, path, unread, errors)? {
+        Some(mut file) => Ok(Some(read_told(&mut file, room, unread, errors)?)),
+        None => Ok(None),
     }
 }

@@ -1,40 +1,37 @@
 // Reading on from a reader.
-ghost use Rattle.io.specs.Counts.{IsPrefixLen};
+ghost use Rattle.std.specs.Prelude.{IfErr};
+ghost use Rattle.std.specs.Counts.{IsPrefixLen};
+ghost use Rattle.std.specs.Io.{ReadsAtMost};
 
 use std::io::{Error, ErrorKind, Read};
 
-// How many bytes of the room are filled, and the error of a read that failed behind them. If none failed, a room that isn't full has
-// the end.
+// A read that failed, and how many bytes of the room were filled before it.
 #[derive(Clone, Copy)]
-pub struct Reading {
+pub struct Torn {
     pub len: usize,
-    pub failure: Option<Error>,
+    pub error: Error,
 }
 
-// Reads until the room is full, the file ends or a read fails.
-pub fn read_full<R: Read>(reader: &mut R, room: &mut [u8]) -> Reading
-    ensures { IsPrefixLen result.len room.new }
+// Reads until the room is full, the file ends or a read fails. It answers how many bytes of the room are filled: one that isn't full has
+// the end.
+pub fn read_full<R: Read>(reader: &mut R, room: &mut [u8]) -> Result<usize, Torn>
+    ensures filled { ReadsAtMost result room.new }
+    ensures torn { IfErr result (λ torn. IsPrefixLen torn.len room.new) }
 {
     let mut len = 0;
     for _ in 0..u64::MAX {
         if len == room.len() {
-            return Reading { len, failure: None };
+            return Ok(len);
         }
         match reader.read(&mut room[len..]) {
-            Ok(0) => return Reading { len, failure: None },
+            Ok(0) => return Ok(len),
             Ok(n) => len += n,
-            Err(e) => {
-                if e.kind() != ErrorKind::Interrupted {
-                    return Reading {
-                        len,
-                        failure: Some(e),
-                    };
-                }
-            }
+            Err(error) if error.kind() == ErrorKind::Interrupted => {}
+            Err(error) => return Err(Torn { len, error }),
         }
     }
-    Reading {
+    Err(Torn {
         len,
-        failure: Some(Error::from(ErrorKind::TimedOut)),
-    }
+        error: Error::from(ErrorKind::TimedOut),
+    })
 }

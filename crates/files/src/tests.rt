@@ -1,4 +1,5 @@
 // Reads and writes that are cut short, interrupted and that fail in between, by a reader and a writer of our own.
+use crate::load::{Unread, load};
 use crate::read::read_full;
 use crate::told::tell;
 use crate::write::write_all;
@@ -16,11 +17,11 @@ const FULL: i32 = 28;
 
 // Gives two bytes at a time. The second call is interrupted, and the fourth fails.
 #[derive(Drop)]
-struct Torn {
+struct Tearing {
     calls: u8,
 }
 
-impl Read for Torn {
+impl Read for Tearing {
     fn read(&mut self, buf: &mut [u8]) -> Result<usize> {
         self.calls = self.calls.saturating_add(1);
         match self.calls {
@@ -63,30 +64,28 @@ impl Write for Filling {
 #[test]
 fn a_read_that_fails_is_no_end(rt: HostRuntime) -> std::result::Result<(), Fail> {
     let mut room = [0u8; 8];
-    let reading = read_full(&mut Torn { calls: 0 }, &mut room);
-    assert_eq!(rt; reading.len, 4);
+    let torn = read_full(&mut Tearing { calls: 0 }, &mut room)
+        .err()
+        .ok_or("no failure")?;
+    assert_eq!(rt; torn.len, 4);
     assert_eq!(rt; room, [b'a', b'b', b'a', b'b', 0, 0, 0, 0]);
-    let error = reading.failure.ok_or("no failure")?;
-    assert_eq!(rt; error.raw_os_error(), Some(FAILED));
+    assert_eq!(rt; torn.error.raw_os_error(), Some(FAILED));
     Ok(())
 }
 
 #[test]
 fn a_full_room_ends_the_reads(rt: HostRuntime) {
     let mut room = [0u8; 3];
-    let reading = read_full(&mut Torn { calls: 0 }, &mut room);
-    assert_eq!(rt; reading.len, 3);
+    let read = read_full(&mut Tearing { calls: 0 }, &mut room);
+    assert_eq!(rt; read.ok(), Some(3));
     assert_eq!(rt; room, [b'a', b'b', b'a']);
-    assert!(rt; reading.failure.is_none());
 }
 
 #[test]
 fn an_end_is_no_failure(rt: HostRuntime) {
     let mut room = [0u8; 3];
     let mut two: &[u8] = b"ab";
-    let reading = read_full(&mut two, &mut room);
-    assert_eq!(rt; reading.len, 2);
-    assert!(rt; reading.failure.is_none());
+    assert_eq!(rt; read_full(&mut two, &mut room).ok(), Some(2));
 }
 
 #[test]
@@ -111,4 +110,16 @@ fn a_reason_is_told_without_its_number(rt: HostRuntime) {
     let mut line = Vec::new(rt.alloc());
     tell(&mut line, b"map.bin", &Error::other("no reason"));
     assert_eq!(rt; line.as_slice(), b"map.bin: no reason\n".as_slice());
+}
+
+#[test]
+fn a_missing_file_is_not_one_that_cannot_be_read(rt: HostRuntime) {
+    let mut room = [0u8; 4];
+    let mut errors = Vec::new(rt.alloc());
+    let missing = load(&rt, b"/no/such/file", &mut room, b"map.bin", &mut errors);
+    assert_eq!(rt; missing, Ok(None));
+    assert_eq!(rt; errors.as_slice(), b"".as_slice());
+    let folder = load(&rt, b"/", &mut room, b"map.bin", &mut errors);
+    assert_eq!(rt; folder, Err(Unread));
+    assert_eq!(rt; errors.as_slice(), b"map.bin: Is a directory\n".as_slice());
 }

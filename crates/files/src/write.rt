@@ -23,10 +23,10 @@ fn output_file<R: Files>(rt: &R) -> Result<Option<R::File>, Error> {
 
 // Whether an error only says that there is nothing to wait for.
 fn is_needless(error: &Error) -> bool {
-    match error.kind() {
-        ErrorKind::InvalidInput | ErrorKind::Unsupported => true,
-        _ => false,
-    }
+    matches!(
+        error.kind(),
+        ErrorKind::InvalidInput | ErrorKind::Unsupported
+    )
 }
 
 // Waits till what was written to standard output has arrived, and answers the error if it hasn't: some systems tell that only when a file
