@@ -56,16 +56,16 @@ fn compare<R: Print, F: Read, S: FnMut(Case) -> bool>(
 ) -> Tally
     requires { S.IsAlwaysCallable same }
 {
-    let mut room = Room::new();
+    let mut room = Room::new(layout);
     let mut differ = 0u64;
     for number in 0..u64::MAX {
-        if !room.read_case(list, layout, number) {
+        if !room.read_case(list, number) {
             return Tally {
                 compared: number,
                 differ,
             };
         }
-        if !same(room.case(layout)) {
+        if !same(room.case()) {
             name_difference(rt, name, number, differ);
             differ = differ.saturating_add(1);
         }

@@ -50,17 +50,19 @@ pub struct Case<'a> {
     pub bytes: &'a [u8],
 }
 
-// Room for the case that was read last, and for the dumps before it.
+// Room for a list's case that was read last, and for the dumps before it.
 #[derive(Clone, Copy)]
 pub(crate) struct Room {
+    layout: Layout,
     words: [u32; WORDS],
     reference: [u32; WORDS],
     bytes: [u8; MOST],
 }
 
 impl Room {
-    pub(crate) fn new() -> Room {
+    pub(crate) fn new(layout: Layout) -> Room {
         Room {
+            layout,
             words: [0; WORDS],
             reference: [0; WORDS],
             bytes: [0; MOST],
@@ -69,7 +71,8 @@ impl Room {
 
     // Reads the case of a number, from 0, and before it the dumps that are due; tells whether there was a whole case. A list ends with its
     // last one.
-    pub(crate) fn read_case<F: Read>(&mut self, list: &mut F, layout: Layout, number: u64) -> bool {
+    pub(crate) fn read_case<F: Read>(&mut self, list: &mut F, number: u64) -> bool {
+        let layout = self.layout;
         match layout.dumps {
             Dumps::Each(cases) if is_due(number, cases) => read_dump(list, &mut self.words),
             Dumps::Pairs(cases) if is_due(number, cases) => {
@@ -83,7 +86,8 @@ impl Room {
     }
 
     // The case that was read.
-    pub(crate) fn case(&self, layout: Layout) -> Case<'_> {
+    pub(crate) fn case(&self) -> Case<'_> {
+        let layout = self.layout;
         let bytes = part(&self.bytes, 0, layout.case);
         let (lengths, bytes) = match layout.lengths {
             Lengths::Eights => (&EIGHTS[..], bytes),
