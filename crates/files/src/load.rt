@@ -14,6 +14,7 @@ use std::rt::Files;
 pub struct Unread;
 
 // Opens a file for reading. A name is text for std, and no other opens anything.
+// Kept: a name is bytes, here, in open and in load: each answers any bytes, and a &str would ask more of callers.
 pub fn open_named<R: Files>(rt: &R, path: &[u8]) -> Result<R::File, Error> {
     let path = std::str::from_utf8(path).map_err(|_| Error::from(ErrorKind::InvalidInput))?;
     fs::open(rt, path)

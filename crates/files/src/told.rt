@@ -20,6 +20,7 @@ fn without_number(text: &[u8]) -> &[u8] {
 // Writes a line: what failed, as the caller names it, a colon and the system's reason. Where even this can't be written, nobody is left to
 // be told.
 pub fn tell<W: Write>(to: &mut W, what: &[u8], error: &Error) {
+    // Kept: a String wants an allocator, which tell isn't handed, and an ArrayString takes a piece whole or not at all.
     let mut reason = [0u8; MOST];
     let mut room = &mut reason[..];
     // of a reason that is too long the end is left out
