@@ -51,7 +51,7 @@ pub struct Case<'a> {
 }
 
 // Room for a list's case that was read last, and for the dumps before it.
-#[derive(Clone, Copy)]
+#[derive(Drop)]
 pub(crate) struct Room {
     layout: Layout,
     words: [u32; WORDS],
