@@ -4,18 +4,18 @@ use Rattle.std.proofs.Common.{◌≡◌, ℕ, ◌≤◌, false, List, pos, sym, 
 use lib.Signed.{lt_z}
 use Rattle.terms.specs.declared.chip.MapChip.TheVariants.{Esp32}
 use Rattle.terms.specs.declared.refusal.Refusal.{Refusal}
-use Rattle.terms.specs.Refusal.{plain}
-use Rattle.terms.proofs.Refusals.{or_else_none, or_else_some, told_refused}
+use Rattle.std.specs.Prelude.{Result, Ok, Err}
+use Rattle.terms.specs.Refusal.{plain, answered, outcome_told}
+use Rattle.terms.proofs.Refusals.{or_else_none, or_else_some, number_is, told_refused, went_well, was_refused}
 use Rattle.inputs.specs.Input.{fields_refusal, decoding_refusal}
 use Rattle.maps.specs.Told.{of_record, told_of}
 use Rattle.maps.specs.Value.{value_by_id}
-use Rattle.maps.proofs.Told.{refuse_plain, told_as, told_same, told_is_number, map_good}
+use Rattle.maps.proofs.Told.{refuse_plain, told_as, told_same, told_is_number, told_went_well, map_good}
 use Rattle.inputs.proofs.Inputs.{decoding_good}
 use Rattle.vref.specs.declared.coefficients.Coefficients.{Coefficients}
 use Rattle.line_record.specs.declared.record.LineRecord.{LineRecord}
 use Rattle.esp32.specs.declared.characterize.Basis.{Basis}
 use Rattle.esp32.specs.declared.characterize.Basis.TheVariants.{TwoPoint, Vref}
-use Rattle.line_record.specs.declared.decoded.Decoded.TheVariants.{Record, Refused}
 use Rattle.line_record.specs.Record.{record_refusal}
 use Rattle.esp32.specs.Code.{vref_of, low_of, high_of}
 use Rattle.esp32.specs.Characterize.{tp_offset, top_of, b_of, b_refusal, basis_refusal}
@@ -68,14 +68,34 @@ module _ (lengths dump map : List ℕ) (unit atten : ℕ) where
 
   -- which case a decoding is, as a `return` asks it
   pub decode_refused : {why : Refusal} → why ≡ told_of lengths Esp32 map decoding → (why.number ≡ 0 → ⊥)
-      → Refused why ≡ decode_of lengths dump map unit atten
+      → Err why ≡ decode_of lengths dump map unit atten
   unfolding decode_of
-  decode_refused e h = told_refused _ _ Refused e h
+  decode_refused e h = told_refused _ _ e h
 
   pub decode_record : {r : LineRecord} → decoding ≡ 0 → r ≡ decoded_record dump map unit atten
-      → Record r ≡ decode_of lengths dump map unit atten
+      → Ok r ≡ decode_of lengths dump map unit atten
   unfolding decode_of
-  decode_record e r = map_good lengths map Esp32 _ Refused e (ap Record r)
+  decode_record e r = map_good lengths map Esp32 _ e (ap Ok r)
+
+  -- by what the check of what is handed in answers, and the search for what a record is made from
+  pub input_refused : {why : Refusal} → Err why ≡ outcome_told (told_of lengths Esp32 map input) → Err why ≡ decode_of lengths dump map unit atten
+  input_refused {why} e =
+      let w = was_refused _ tt e in
+      let some : why.number ≡ 0 → ⊥ = λ z. w.0 (sym (number_is w.1) ∙ z) in
+      decode_refused (decode_passed_on w.1 some) some
+
+  module _ {v : Unit} (good : Ok v ≡ outcome_told (told_of lengths Esp32 map input)) where
+    abbrev nine : ℕ
+    nine = basis_refusal unit atten (basis_of dump map unit)
+
+    pub basis_refused : {A : Type 0} (found : A) {why : Refusal} → Err why ≡ answered nine found → Err why ≡ decode_of lengths dump map unit atten
+    basis_refused found e =
+        let w = was_refused _ found e in
+        decode_refused (decode_nine (told_went_well lengths map Esp32 good) refl refl w.1) (λ z. w.0 (sym (number_is w.1) ∙ z))
+
+    pub found_good : {A : Type 0} (found : A) {f : A} → Ok f ≡ answered nine found → (decoding ≡ 0) × (f ≡ found)
+    found_good found e =
+        let w = went_well _ found e in (sym (decode_basis (told_went_well lengths map Esp32 good) refl (sym w.0)), w.1)
 
   -- what is decoded passes the record check
   pub decoded_passes : decoding ≡ 0 → record_refusal (decoded_record dump map unit atten) ≡ 0

@@ -7,7 +7,7 @@ use Rattle.maps.specs.Told.{of_record}
 use Rattle.maps.specs.When.{MapWhen}
 use Rattle.maps.proofs.Tells.{told_exactly}
 use Rattle.inputs.proofs.Tells.{decoding_of_map}
-use Rattle.line_record.specs.Decoded.{refusal_of}
+use Rattle.terms.specs.Refusal.{refusal_of}
 use Rattle.esp32.specs.Decode.{decode_of}
 use Rattle.esp32.specs.When.{DecodeWhen, before, underflow, decoded}
 use Rattle.esp32.proofs.Exactly.{decode_exactly}

@@ -2,8 +2,9 @@
 -- records first to last with 3, 4, 5, 6 within each, then .. 9"; by document 02, 18 comes after 3 (#102), and 20 after 1 (#109). A dump
 -- is the list of its words, a map and a list of block lengths that of its bytes. In esp-hal: `new_cal` and `check_efuse_tp` of calibration/line/esp32.rs, which cites ESP-IDF's
 -- components/esp_adc/esp32/adc_cali_line_fitting.c, line 155.
-use Rattle.std.specs.Prelude.{ℕ, Bool, cond, not, ◌&&◌, List, ◌==◌}
+use Rattle.std.specs.Prelude.{Result, ℕ, Bool, cond, not, ◌&&◌, List, ◌==◌}
 use Rattle.terms.specs.declared.chip.MapChip.TheVariants.{Esp32}
+use Rattle.terms.specs.declared.refusal.Refusal.{Refusal}
 use Rattle.terms.specs.Refusal.{or_else, told}
 use Rattle.terms.specs.Unit.{by_unit}
 use Rattle.inputs.specs.Input.{decoding_refusal}
@@ -15,8 +16,6 @@ use Rattle.line_record.specs.declared.record.Source.TheVariants as source
 use Rattle.esp32.specs.declared.characterize.Basis.{Basis}
 use Rattle.esp32.specs.declared.characterize.Basis.TheVariants.{TwoPoint, Vref}
 use Rattle.esp32.specs.declared.decode.Found.{Found}
-use Rattle.line_record.specs.declared.decoded.Decoded.{Decoded}
-use Rattle.line_record.specs.declared.decoded.Decoded.TheVariants.{Record, Refused}
 use Rattle.esp32.specs.Code.{vref_of}
 use Rattle.esp32.specs.Characterize.{coefficients_of, basis_refusal}
 
@@ -75,6 +74,6 @@ decode_refusal lengths dump map unit atten =
     (basis_refusal unit atten (basis_of dump map unit))
 
 -- "Decoding answers a record or one number"
-unfoldable pub decode_of : List ℕ → List ℕ → List ℕ → ℕ → ℕ → Decoded
+unfoldable pub decode_of : List ℕ → List ℕ → List ℕ → ℕ → ℕ → Result LineRecord Refusal
 decode_of lengths dump map unit atten =
-    told (told_of lengths Esp32 map (decode_refusal lengths dump map unit atten)) (Record (decoded_record dump map unit atten)) Refused
+    told (told_of lengths Esp32 map (decode_refusal lengths dump map unit atten)) (decoded_record dump map unit atten)

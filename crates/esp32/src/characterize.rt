@@ -1,11 +1,13 @@
 // The coefficients a and b of a line, by two points or by Vref.
 ghost use Rattle.std.specs.Prelude.{◌≡◌, ◌<◌, ◌≤◌};
+ghost use Rattle.terms.specs.Refusal.{answered};
 ghost use Rattle.esp32.specs.Private.{Apart, InBits, tp_atten_of};
 ghost use Rattle.esp32.specs.Characterize.{tp_scale, tp_offset, two_point_a, top_of, b_refusal, two_point_b, two_point_line, two_point_refusal};
 ghost use Rattle.esp32.specs.Characterize.{coefficients_of, basis_refusal};
 
 use crate::code;
 use terms::refusal;
+use terms::refusal::{Refusal, plain};
 use vref::coefficients::{ATTENUATIONS, Atten, Coefficients, vref_line};
 
 const TP_LOW_VOLTAGE: u32 = 150;
@@ -55,17 +57,6 @@ fn top(low: u32, high: u32) -> u32
     (DELTA_V * high + delta_x / 2) / delta_x
 }
 
-// 9 where b is negative.
-fn b_refusal(t: u32, offset: u32) -> u8
-    requires { offset ≤ 66 }
-    ensures { result ≡ b_refusal t offset }
-{
-    if TP_HIGH_VOLTAGE + offset < t {
-        return refusal::UNDERFLOW;
-    }
-    refusal::NONE
-}
-
 // a by two points.
 fn two_point_a(scale: u32, low: u32, high: u32) -> u32
     requires { (scale ≤ 224708) × Apart low high }
@@ -75,59 +66,46 @@ fn two_point_a(scale: u32, low: u32, high: u32) -> u32
     (DELTA_V * scale + delta_x / 2) / delta_x
 }
 
-// b by two points, where it isn't refused. The offset comes first: esp-hal takes t off before it, and goes below zero on the way.
-fn two_point_b(t: u32, offset: u32) -> u32
-    requires { (b_refusal t offset ≡ 0) × (offset ≤ 66) }
-    ensures { result ≡ two_point_b t offset }
+// b by two points; 9 where it is negative. The offset comes first: esp-hal takes t off before it, and goes below zero on the way.
+fn two_point_b(t: u32, offset: u32) -> Result<u32, Refusal>
+    requires { offset ≤ 66 }
+    ensures { result ≡ answered (b_refusal t offset) (two_point_b t offset) }
 {
-    TP_HIGH_VOLTAGE + offset - t
+    if TP_HIGH_VOLTAGE + offset < t {
+        return Err(plain(refusal::UNDERFLOW));
+    }
+    Ok(TP_HIGH_VOLTAGE + offset - t)
 }
 
-// a and b from the counts at 850 mV and at 150 mV.
-fn characterize_using_two_point(unit: u8, atten: u8, high: u32, low: u32) -> Coefficients
-    requires { (unit ≤ 1) × (atten ≤ 3) × Apart low high × (two_point_refusal unit atten low high ≡ 0) }
-    ensures { result ≡ two_point_line unit atten low high }
+// a and b from the counts at 850 mV and at 150 mV; 9 where these make b negative.
+fn characterize_using_two_point(
+    unit: u8,
+    atten: u8,
+    high: u32,
+    low: u32,
+) -> Result<Coefficients, Refusal>
+    requires { (unit ≤ 1) × (atten ≤ 3) × Apart low high }
+    ensures { result ≡ answered (two_point_refusal unit atten low high) (two_point_line unit atten low high) }
 {
     let entry = tp_entry(unit, atten);
     let scale = entry.0;
     let offset = entry.1;
-    Coefficients {
+    let b = two_point_b(top(low, high), offset)?;
+    Ok(Coefficients {
         a: two_point_a(scale, low, high),
-        b: two_point_b(top(low, high), offset),
-    }
+        b,
+    })
 }
 
-// 9 where these counts make b negative.
-fn two_point_refusal(unit: u8, atten: u8, high: u32, low: u32) -> u8
-    requires { (unit ≤ 1) × (atten ≤ 3) × Apart low high }
-    ensures { result ≡ two_point_refusal unit atten low high }
-{
-    let entry = tp_entry(unit, atten);
-    b_refusal(top(low, high), entry.1)
-}
-
-// 9 where the basis is two points that make b negative.
-pub(crate) fn basis_refusal(unit: u8, atten: u8, basis: Basis) -> u8
-    requires { (unit ≤ 1) × (atten ≤ 3) × InBits basis }
-    ensures { result ≡ basis_refusal unit atten basis }
-{
-    match basis {
-        Basis::TwoPoint(low, high) => {
-            two_point_refusal(
-                unit,
-                atten,
-                code::efuse_tp_high(unit, high),
-                code::efuse_tp_low(unit, low),
-            )
-        }
-        Basis::Vref => refusal::NONE,
-    }
-}
-
-// The coefficients from a basis that isn't refused; Vref in millivolts.
-pub(crate) fn characterize(unit: u8, atten: u8, vref: u32, basis: Basis) -> Coefficients
-    requires { (unit ≤ 1) × (atten ≤ 3) × (vref ≤ 1205) × InBits basis × (basis_refusal unit atten basis ≡ 0) }
-    ensures { result ≡ coefficients_of unit atten vref basis }
+// The coefficients from a basis, Vref in millivolts; 9 where the basis is two points that make b negative.
+pub(crate) fn characterize(
+    unit: u8,
+    atten: u8,
+    vref: u32,
+    basis: Basis,
+) -> Result<Coefficients, Refusal>
+    requires { (unit ≤ 1) × (atten ≤ 3) × (vref ≤ 1205) × InBits basis }
+    ensures { result ≡ answered (basis_refusal unit atten basis) (coefficients_of unit atten vref basis) }
 {
     match basis {
         Basis::TwoPoint(low, high) => {
@@ -138,6 +116,6 @@ pub(crate) fn characterize(unit: u8, atten: u8, vref: u32, basis: Basis) -> Coef
                 code::efuse_tp_low(unit, low),
             )
         }
-        Basis::Vref => vref_line(unit, atten, vref as u16),
+        Basis::Vref => Ok(vref_line(unit, atten, vref as u16)),
     }
 }

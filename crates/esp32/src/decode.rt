@@ -1,17 +1,18 @@
 // Decoding: the line record of a unit at an attenuation, from a dump and its map. In esp-hal: `new_cal`.
 ghost use Rattle.std.specs.Prelude.{◌≡◌, ◌<◌};
 ghost use Rattle.terms.specs.declared.chip.MapChip.TheVariants.{Esp32};
-ghost use Rattle.inputs.specs.Input.{fields_refusal};
-ghost use Rattle.esp32.specs.Decode.{basis_of, source_of, found_of, record_from, decode_refusal, decode_of};
+ghost use Rattle.terms.specs.Refusal.{answered};
+ghost use Rattle.inputs.specs.Input.{fields_refusal, decoding_refusal};
+ghost use Rattle.esp32.specs.Characterize.{basis_refusal};
+ghost use Rattle.esp32.specs.Decode.{basis_of, source_of, found_of, record_from, decode_of};
 
 use crate::characterize::Basis;
 use crate::{characterize, code};
-use inputs::input::decoding_refusal;
-use line_record::decoded::Decoded;
+use inputs::input::check_decoding;
 use line_record::record::{LineRecord, Source};
 use maps::value::record_value;
 use terms::chip::MapChip;
-use terms::refusal;
+use terms::refusal::Refusal;
 use vref::coefficients::Coefficients;
 
 // Where an ESP32 map has its fields, whose ids are from 1 to 6.
@@ -66,14 +67,15 @@ fn basis(dump: &[u32], lengths: &[u8], map: &[u8], unit: u8) -> Basis
     )
 }
 
-// What the record of a unit at an attenuation is made from, where nothing is refused.
-fn find(dump: &[u32], lengths: &[u8], map: &[u8], unit: u8, atten: u8, basis: Basis) -> Found
-    requires { (decode_refusal lengths.now dump.now map.now unit atten ≡ 0) × (basis ≡ basis_of dump.now map.now unit) }
-    ensures { result ≡ found_of dump.now map.now unit atten }
+// What the record of a unit at an attenuation is made from, where nothing handed in is refused; else 9.
+fn find(dump: &[u32], lengths: &[u8], map: &[u8], unit: u8, atten: u8) -> Result<Found, Refusal>
+    requires { decoding_refusal lengths.now Esp32 dump.now map.now unit atten ≡ 0 }
+    ensures { result ≡ answered (basis_refusal unit atten (basis_of dump.now map.now unit)) (found_of dump.now map.now unit atten) }
 {
+    let basis = basis(dump, lengths, map, unit);
     let vref = record_value(dump, lengths, map, ADC_VREF);
-    let line = characterize::characterize(unit, atten, code::efuse_vref(vref), basis);
-    Found { basis, vref, line }
+    let line = characterize::characterize(unit, atten, code::efuse_vref(vref), basis)?;
+    Ok(Found { basis, vref, line })
 }
 
 // The source of a record whose a and b come from there: without the codes.
@@ -105,17 +107,16 @@ fn record_from(found: Found, unit: u8, atten: u8) -> LineRecord
 
 // The line record of a unit at an attenuation, from a dump and its map. It passes `check_record`. Any dump, lengths, map, unit and
 // attenuation are answered; refusals 1, 20, 7, then the map's, then 9.
-pub fn decode(dump: &[u32], lengths: &[u8], map: &[u8], unit: u8, atten: u8) -> Decoded
+pub fn decode(
+    dump: &[u32],
+    lengths: &[u8],
+    map: &[u8],
+    unit: u8,
+    atten: u8,
+) -> Result<LineRecord, Refusal>
     ensures { result ≡ decode_of lengths.now dump.now map.now unit atten }
 {
-    let why = decoding_refusal(MapChip::Esp32, dump, lengths, map, unit, atten);
-    if why.number != refusal::NONE {
-        return Decoded::Refused(why);
-    }
-    let basis = basis(dump, lengths, map, unit);
-    let number = characterize::basis_refusal(unit, atten, basis);
-    if number != refusal::NONE {
-        return Decoded::Refused(refusal::plain(number));
-    }
-    Decoded::Record(record_from(find(dump, lengths, map, unit, atten, basis), unit, atten))
+    check_decoding(MapChip::Esp32, dump, lengths, map, unit, atten)?;
+    let found = find(dump, lengths, map, unit, atten)?;
+    Ok(record_from(found, unit, atten))
 }

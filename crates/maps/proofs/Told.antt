@@ -11,7 +11,7 @@ use Rattle.terms.specs.declared.refusal.Refusal.{Refusal}
 use Rattle.std.specs.Prelude.{Result, Ok, Err}
 use Rattle.terms.specs.Refusal.{refuse, or_else, first_of, plain, told, outcome_told, outcome_of}
 use Rattle.terms.specs.Says.{Says}
-use Rattle.terms.proofs.Refusals.{told_good, told_refused, or_else_some, went_well, was_refused, Passed, first_stop, first_none}
+use Rattle.terms.proofs.Refusals.{told_good, told_refused, or_else_some, went_well, was_refused, number_is, Passed, first_stop, first_none}
 use Rattle.terms.proofs.Says.{told_says}
 use Rattle.dumps.specs.When.{LengthsWhen, not_eleven, above_eight, good_lengths}
 use Rattle.efuse.specs.When.{bad_block, bad_bits, good_place}
@@ -77,6 +77,17 @@ module _ (lengths map : List ℕ) where
 
     pub told_none : (n : ℕ) → (told_of lengths chip map n).number ≡ 0 → told_of lengths chip map n ≡ plain 0
     told_none n e = ap (told_of lengths chip map) (sym (told_number n) ∙ e) ∙ told_plain refl
+
+    -- of a plain refusal, and of one that comes from a call on the same map
+    pub told_as : {why : Refusal} {n number : ℕ} → why ≡ plain n → of_record n ≡ false → number ≡ n → why ≡ told_of lengths chip map number
+    told_as p e h = p ∙ sym (told_plain e) ∙ ap (told_of lengths chip map) (sym h)
+
+    pub told_same : {why : Refusal} {n number : ℕ} → why ≡ told_of lengths chip map n → number ≡ n → why ≡ told_of lengths chip map number
+    told_same p h = p ∙ ap (told_of lengths chip map) (sym h)
+
+    -- what a caller knows of the number
+    pub told_is_number : {why : Refusal} {n : ℕ} → why ≡ told_of lengths chip map n → why.number ≡ n
+    told_is_number e = number_is e ∙ told_number _
 
     -- a number that is of no record is refused as it is without a map
     pub outcome_plain : (n : ℕ) → of_record n ≡ false → outcome_of n ≡ outcome_told (told_of lengths chip map n)

@@ -13,18 +13,15 @@ pub efuse_tp_low-requires : goal.efuse_tp_low-requires
 efuse_tp_low-requires c = (in_bits c.in-TwoPoint.is c.requires.3).0
 
 pub characterize_using_two_point-requires : goal.characterize_using_two_point-requires
-unfolding basis_refusal
 characterize_using_two_point-requires c =
-    rw (c.efuse_tp_low.ensures, c.efuse_tp_high.ensures)
-    (c.requires.0, c.requires.1, points_apart _ _ _, rw c.in-TwoPoint.is at c.requires.4)
+    rw (c.efuse_tp_low.ensures, c.efuse_tp_high.ensures) (c.requires.0, c.requires.1, points_apart _ _ _)
 
 pub returns-in-TwoPoint : goal.returns-in-TwoPoint
-unfolding coefficients_of
+unfolding coefficients_of basis_refusal
 returns-in-TwoPoint c =
     c.characterize_using_two_point.ensures
     ∙ rw (c.efuse_tp_low.ensures, c.efuse_tp_high.ensures, c.in-TwoPoint.is)
 
 pub returns-in-Vref : goal.returns-in-Vref
-unfolding coefficients_of
-returns-in-Vref c =
-    c.vref_line.ensures ∙ line_is _ _ _ c.requires.0 c.requires.1 ∙ rw c.in-Vref.is
+unfolding coefficients_of basis_refusal
+returns-in-Vref c = rw (c.in-Vref.is, c.vref_line.ensures, line_is _ _ _ c.requires.0 c.requires.1)
