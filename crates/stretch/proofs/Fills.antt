@@ -11,7 +11,7 @@ use Rattle.line_record.specs.declared.record.LineRecord.{LineRecord}
 use Rattle.line_record.specs.Record.{record_refusal}
 use Rattle.line_record.proofs.Exactly.{record_exactly}
 use Rattle.stretch.specs.When.{bad_stretch, good_stretch}
-use Rattle.stretch.proofs.Exactly.{fill_exactly}
+use Rattle.stretch.proofs.Exactly.{fill_exactly, fill_good}
 use Rattle.stretch.specs.Fill.{fill_refusal, answers_from, filled}
 
 -- what a fill leaves in the lent list, by what its check says
@@ -23,6 +23,10 @@ module _ (r : LineRecord) (first : ℕ) (lent : List ℕ) where
   pub filled_refused : {why : Refusal} → Err why ≡ outcome_of (fill_refusal r first (length lent)) → lent ≡ filled r first lent
   unfolding filled
   filled_refused e = sym (by_number_refused _ _ _ (was_refused (plain (fill_refusal r first (length lent))) tt e).0)
+
+-- what is known where nothing is refused
+pub accepted : (r : LineRecord) (first n : ℕ) → Ok tt ≡ outcome_of (fill_refusal r first n) → (record_refusal r ≡ 0) × (first + n ≤ 4096)
+accepted r first n e = fill_good r first n (went_well (plain (fill_refusal r first n)) tt e).0
 
 -- a stretch's refusal, where the record has none
 module _ (r : LineRecord) (first n : ℕ) (good : Ok tt ≡ outcome_of (record_refusal r)) where

@@ -58,11 +58,11 @@ module _ (r : LineRecord) (first : ℕ) {s : Slope} (p : s ≡ line_slope r firs
       rw p (omega (arith, mul-add r.coeff_a first n, line_sum_most r (record_sound r good) (first + n) h))
 
 -- the lookup's, of which n counts are at most up to the next point
-module _ (r : LineRecord) (first n : ℕ) {s : Slope} (p : s ≡ lut_slope r first) (step : InStep r first n) where
+module _ (r : LineRecord) (first n : ℕ) {s : Slope} (p : s ≡ lut_slope r first) (good : record_refusal r ≡ 0) (step : InStep first n) where
   lut_sum : (k : ℕ) → first % 64 + k ≤ 64 → along s k ≡ lookup_sum r (first + k)
   lut_sum k near =
-      let ranges = record_sound r step.good in
-      let has = has_count r first (record_converter r step.good) step.from step.upto in
+      let ranges = record_sound r good in
+      let has = has_count r first (record_converter r good) step.from step.upto in
       rw (p ∙ sym (slope_some r first has))
       (sym (sum_along _ _ first step.from step.upto ranges.vref_least ranges.vref_most k near))
 
@@ -71,7 +71,7 @@ module _ (r : LineRecord) (first n : ℕ) {s : Slope} (p : s ≡ lut_slope r fir
 
   pub lut_fits : along s n < 65536 * 12800
   lut_fits =
-      let ranges = record_sound r step.good in
+      let ranges = record_sound r good in
       omega (
         arith,
         lut_sum n step.room,
@@ -80,7 +80,7 @@ module _ (r : LineRecord) (first n : ℕ) {s : Slope} (p : s ≡ lut_slope r fir
 
   pub blended : {line : Slope} → line ≡ line_slope r first → first < 2944 → Blended line s (first - 2880) n
   blended q below =
-      record { counts = omega arith; line_fits = line_fits r first q n step.good (omega arith); lut_fits = lut_fits }
+      record { counts = omega arith; line_fits = line_fits r first q n good (omega arith); lut_fits = lut_fits }
 
   -- from 2944 on its quotients are the answers
   pub upper_tab : uses_lookup r ≡ true → 2944 ≤ first → tab (λ k. along s k / 12800) n ≡ answers_from r first n
@@ -99,12 +99,12 @@ module _ (r : LineRecord) (first n : ℕ) {s : Slope} (p : s ≡ lut_slope r fir
       (sym (answer_blend r (first + k) uses (omega arith) (omega arith))))
 
 -- where a count is past the line, its segment goes up to the next point
-pub in_step : (r : LineRecord) (first n : ℕ) → beyond_line r first ≡ true → record_refusal r ≡ 0 → first ≤ 4095 → n ≤ segment_left r first
-    → (uses_lookup r ≡ true) × InStep r first n
-in_step r first n past good upto left =
+pub in_step : (r : LineRecord) (first n : ℕ) → beyond_line r first ≡ true → first ≤ 4095 → n ≤ segment_left r first
+    → (uses_lookup r ≡ true) × InStep first n
+in_step r first n past upto left =
     let p = beyond_line_lem r first past in
     let s = segment_step r first p.0 p.1 in
-    (p.0, record { good = good; from = p.1; upto = upto; room = omega arith })
+    (p.0, record { from = p.1; upto = upto; room = omega arith })
 
 -- where a count isn't past the line, none of its segment is
 module _ (r : LineRecord) (first n : ℕ) (none : beyond_line r first ≡ false) (left : n ≤ segment_left r first) where

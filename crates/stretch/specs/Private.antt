@@ -1,8 +1,8 @@
 -- What private functions promise of slopes and of the fill's segments. No public promise cites it.
-use Rattle.std.specs.Prelude.{◌≡◌, cond, not, ℕ, ◌+◌, ◌*◌, ◌-◌, ◌%◌, ◌≤◌, ◌<◌, ltb}
+use Rattle.std.specs.Prelude.{cond, not, ℕ, ◌+◌, ◌*◌, ◌-◌, ◌%◌, ◌≤◌, ◌<◌, ltb}
 use Rattle.line_record.specs.declared.record.LineRecord.{LineRecord}
 use Rattle.line.specs.declared.lookup.Slope.{Slope}
-use Rattle.line_record.specs.Record.{uses_lookup, record_refusal}
+use Rattle.line_record.specs.Record.{uses_lookup}
 
 -- a sum k counts further on its slope
 abbrev pub along : Slope → ℕ → ℕ
@@ -13,8 +13,7 @@ abbrev pub line_slope : LineRecord → ℕ → Slope
 line_slope r raw = record { sum = r.coeff_a * raw + 32768 + 65536 * r.coeff_b; rise = r.coeff_a }
 
 -- n counts from a first one on, at most up to the next point
-pub record InStep (r : LineRecord) (first n : ℕ) : Type 0 where
-  pub good : record_refusal r ≡ 0
+pub record InStep (first n : ℕ) : Type 0 where
   pub from : 2880 ≤ first
   pub upto : first ≤ 4095
   pub room : first % 64 + n ≤ 64

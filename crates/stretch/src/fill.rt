@@ -18,41 +18,6 @@ use terms::refusal::{Refusal, STRETCH, plain};
 
 const COUNTS: u32 = 4096;
 
-// The line's slope from a count on; its divisor is `COEFF_A_SCALE`.
-#[tactic(auto, using(line::proofs::Answers::line_sum_most, line_record::proofs::Records::record_sound))]
-fn line_slope(cal: LineRecord, raw: u32) -> Slope
-    requires { (record_refusal cal ≡ 0) × (raw ≤ 4096) }
-    ensures { result ≡ line_slope cal raw }
-{
-    Slope {
-        sum: cal.coeff_a * raw + COEFF_A_ROUND + COEFF_A_SCALE * cal.coeff_b,
-        rise: cal.coeff_a,
-    }
-}
-
-// The line's voltages.
-#[tactic(auto, using(crate::proofs::Segments::line_fits))]
-fn fill_line(cal: LineRecord, first: u32, out: &mut [u16])
-    requires { (record_refusal cal ≡ 0) × (first + length out.old ≤ 4096) }
-    ensures { out.new ≡ tab (λ k. line_voltage cal (first + k)) (length out.old) }
-{
-    ramp(line_slope(cal, first), COEFF_A_SCALE, out);
-}
-
-// The answers from 2880 on, where the lookup is used, at most up to the next point.
-#[tactic(auto, using(crate::proofs::Segments::lut_fits))]
-fn fill_step(cal: LineRecord, first: u32, out: &mut [u16])
-    requires { (uses_lookup cal ≡ true) × InStep cal first (length out.old) }
-    ensures { out.new ≡ answers_from cal first (length out.old) }
-{
-    let lut = lut_slope(cal, first);
-    if first < LUT_HIGH_THRESH {
-        blend_ramps(line_slope(cal, first), lut, first - LUT_LOW_THRESH, out);
-    } else {
-        ramp(lut, LUT_SCALE, out);
-    }
-}
-
 // How many counts from a given one on are in its segment. Points stand at multiples of 64.
 #[tactic(auto, unfolding(crate::specs::Private::segment_left))]
 fn segment_left(cal: LineRecord, count: u32) -> u32
@@ -68,30 +33,75 @@ fn segment_left(cal: LineRecord, count: u32) -> u32
     }
 }
 
-// The answers of a stretch that lies in one segment.
-#[tactic(auto, using(crate::proofs::Segments::segment_ends))]
-fn fill_segment(cal: LineRecord, first: u32, out: &mut [u16])
-    requires { (record_refusal cal ≡ 0) × (first ≤ 4095) × (length out.old ≤ segment_left cal first) }
-    ensures { out.new ≡ answers_from cal first (length out.old) }
-{
-    if beyond_line(cal, first) {
-        fill_step(cal, first, out);
-    } else {
-        fill_line(cal, first, out);
-    }
+// A record that nothing is wrong with.
+#[derive(Clone, Copy)]
+struct GoodRecord {
+    cal: LineRecord,
+    ghost good: { record_refusal cal ≡ 0 },
 }
 
-// The answers of a stretch, segment by segment.
-fn fill_answers(cal: LineRecord, first: u32, out: &mut [u16])
-    requires { fill_refusal cal first (length out.old) ≡ 0 }
-    ensures { out.new ≡ answers_from cal first (length out.old) }
-{
-    let mut at = 0;
-    while at < out.len() {
-        let count = first + (at as u32);
-        let end = at + (segment_left(cal, count) as usize).min(out.len() - at);
-        fill_segment(cal, count, &mut out[at..end]);
-        at = end;
+impl GoodRecord {
+    // The line's slope from a count on; its divisor is `COEFF_A_SCALE`.
+    #[tactic(auto, using(line::proofs::Answers::line_sum_most, line_record::proofs::Records::record_sound))]
+    fn line_slope(self, raw: u32) -> Slope
+        requires { raw ≤ 4096 }
+        ensures { result ≡ line_slope self.cal raw }
+    {
+        Slope {
+            sum: self.cal.coeff_a * raw + COEFF_A_ROUND + COEFF_A_SCALE * self.cal.coeff_b,
+            rise: self.cal.coeff_a,
+        }
+    }
+
+    // The line's voltages.
+    #[tactic(auto, using(crate::proofs::Segments::line_fits))]
+    fn fill_line(self, first: u32, out: &mut [u16])
+        requires { first + length out.old ≤ 4096 }
+        ensures { out.new ≡ tab (λ k. line_voltage self.cal (first + k)) (length out.old) }
+    {
+        ramp(self.line_slope(first), COEFF_A_SCALE, out);
+    }
+
+    // The answers from 2880 on, where the lookup is used, at most up to the next point.
+    #[tactic(auto, using(crate::proofs::Segments::lut_fits))]
+    fn fill_step(self, first: u32, out: &mut [u16])
+        requires { (uses_lookup self.cal ≡ true) × InStep first (length out.old) }
+        ensures { out.new ≡ answers_from self.cal first (length out.old) }
+    {
+        let lut = lut_slope(self.cal, first);
+        if first < LUT_HIGH_THRESH {
+            blend_ramps(self.line_slope(first), lut, first - LUT_LOW_THRESH, out);
+        } else {
+            ramp(lut, LUT_SCALE, out);
+        }
+    }
+
+    // The answers of a stretch that lies in one segment.
+    #[tactic(auto, using(crate::proofs::Segments::segment_ends))]
+    fn fill_segment(self, first: u32, out: &mut [u16])
+        requires { (first ≤ 4095) × (length out.old ≤ segment_left self.cal first) }
+        ensures { out.new ≡ answers_from self.cal first (length out.old) }
+    {
+        if beyond_line(self.cal, first) {
+            self.fill_step(first, out);
+        } else {
+            self.fill_line(first, out);
+        }
+    }
+
+    // The answers of a stretch, segment by segment.
+    // Kept: the place `at`; after a loop over the rest, by `split_at_mut`, nothing is known of what it wrote, so `fill`'s lent didn't close.
+    fn fill_answers(self, first: u32, out: &mut [u16])
+        requires { first + length out.old ≤ 4096 }
+        ensures { out.new ≡ answers_from self.cal first (length out.old) }
+    {
+        let mut at = 0;
+        while at < out.len() {
+            let count = first + (at as u32);
+            let end = at + (segment_left(self.cal, count) as usize).min(out.len() - at);
+            self.fill_segment(count, &mut out[at..end]);
+            at = end;
+        }
     }
 }
 
@@ -110,13 +120,13 @@ fn check_fill(cal: LineRecord, first: u32, n: usize) -> Result<(), Refusal>
 
 // Writes the answers of the counts from a first one on, as many as the lent list has numbers; none is fine. A refusal, 10, 11, leaves
 // the list as it was.
-#[tactic(auto, using(crate::proofs::Fills::filled_good, crate::proofs::Fills::filled_refused))]
+#[tactic(auto, using(crate::proofs::Fills::accepted, crate::proofs::Fills::filled_good, crate::proofs::Fills::filled_refused))]
 pub fn fill(cal: LineRecord, first: Count, out: &mut [u16]) -> Result<(), Refusal>
     ensures answer { result ≡ outcome_of (fill_refusal cal first.0 (length out.old)) }
     ensures lent { out.new ≡ filled cal first.0 out.old }
 {
     let first = first.0 as u32;
     check_fill(cal, first, out.len())?;
-    fill_answers(cal, first, out);
+    GoodRecord { cal }.fill_answers(first, out);
     Ok(())
 }

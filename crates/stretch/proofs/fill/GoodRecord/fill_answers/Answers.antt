@@ -1,4 +1,4 @@
--- `stretch::fill_answers` meets its contract: at each turn the first `at` answers are written, and the turn adds those of one segment.
+-- `stretch::GoodRecord::fill_answers` meets its contract: at each turn the first `at` answers are written, and the turn adds those of one segment.
 use mathlib.Core.Path.{ap}
 use Prim.Native.Nat.{◌+◌, ◌≤◌}
 use native.Mathlib.Omega.{arith}
@@ -6,16 +6,13 @@ use lib.ListN.{length-take, length-drop}
 use Rattle.terms.proofs.Parts.{fill_part}
 use Rattle.terms.proofs.Tab.{fill_start, fill_done}
 use Rattle.line.specs.Convert.{answer_at}
-use Rattle.stretch.proofs.Exactly.{fill_good}
 use Rattle.stretch.proofs.Segments.{segment_ends}
-use Rattle.stretch.proofs.fill.fill_answers.Goals as goal
-use Rattle.stretch.proofs.fill.fill_answers.Goals.{In-loop-at}
+use Rattle.stretch.proofs.fill.GoodRecord.fill_answers.Goals as goal
+use Rattle.stretch.proofs.fill.GoodRecord.fill_answers.Goals.{In-loop-at}
 
 -- a count of the stretch
 inside : (c : In-loop-at) → c.args.first + c.loop-at.at ≤ 4095
-inside c =
-    let good = fill_good _ _ _ c.requires in
-    omega (arith, c.loop-at.invariant.same)
+inside c = omega (arith, c.loop-at.invariant.same)
 
 pub loop-at-init : goal.loop-at-init
 loop-at-init c = fill_start _
@@ -31,8 +28,7 @@ segment_left-requires c = omega (arith, inside (goal.at.segment_left-requires c)
 
 pub fill_segment-requires : goal.fill_segment-requires
 fill_segment-requires c =
-    let good = fill_good _ _ _ c.requires in
-    (good.0, inside (goal.at.fill_segment-requires c).In-loop-at, simp (length-take, length-drop) (omega (arith, c.segment_left.ensures)))
+    (inside (goal.at.fill_segment-requires c).In-loop-at, simp (length-take, length-drop) (omega (arith, c.segment_left.ensures)))
 
 pub loop-at-preserved : goal.loop-at-preserved
 loop-at-preserved c =
@@ -41,7 +37,7 @@ loop-at-preserved c =
 
 pub loop-at-smaller : goal.loop-at-smaller
 loop-at-smaller c =
-    let ends = segment_ends c.args.cal (c.args.first + c.loop-at.at) (inside (goal.at.loop-at-smaller c).In-loop-at) in
+    let ends = segment_ends c.args.self.cal (c.args.first + c.loop-at.at) (inside (goal.at.loop-at-smaller c).In-loop-at) in
     omega (arith, (loop-at-preserved c).same, c.loop-at.invariant.same, c.segment_left.ensures)
 
 pub shape_of-out : goal.shape_of-out
