@@ -4,9 +4,7 @@ ghost use Rattle.references.specs.C6.{millivolts_of, cal_mv_of};
 
 use terms::c6_version::rtc_calib_version;
 use terms::quantity::Millivolt;
-use terms::refusal;
-use terms::refusal::unit_refusal;
-use terms::voltage::Voltage;
+use terms::refusal::{Refusal, check_unit};
 
 const INPUT_VOUT_MV: [u16; 4] = [400, 550, 750, 1370];
 
@@ -17,20 +15,19 @@ fn input_vout_mv(version: u8, atten: u8) -> u16
     requires { atten ≤ 3 }
     ensures { result ≡ millivolts_of version atten }
 {
-    let i = atten as usize;
+    let i = usize::from(atten);
     if version == 2 {
-        return INPUT_VOUT_MV_V2[i];
+        INPUT_VOUT_MV_V2[i]
+    } else {
+        INPUT_VOUT_MV[i]
     }
-    INPUT_VOUT_MV[i]
 }
 
 // The voltage at an attenuation's reference point; version 0 has version 1's. Refusal 7.
-pub fn rtc_calib_cal_mv(minor: u8, unit: u8, atten: u8) -> Voltage
+#[tactic(auto, using(terms::proofs::Refusals::unit_inside), unfolding(crate::specs::C6::cal_mv_of))]
+pub fn rtc_calib_cal_mv(minor: u8, unit: u8, atten: u8) -> Result<Millivolt, Refusal>
     ensures { result ≡ cal_mv_of minor unit atten }
 {
-    let number = unit_refusal(unit, atten);
-    if number != refusal::NONE {
-        return Voltage::Refused(refusal::plain(number));
-    }
-    Voltage::Value(Millivolt(input_vout_mv(rtc_calib_version(minor), atten)))
+    check_unit(unit, atten)?;
+    Ok(Millivolt(input_vout_mv(rtc_calib_version(minor), atten)))
 }
