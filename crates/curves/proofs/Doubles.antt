@@ -2,7 +2,6 @@
 -- 53 bits, no more and no fewer, so that it makes the nearest double; and the coefficient is that double times 2^52, cut.
 -- Assumes nothing.
 use mathlib.Core.Path.{◌≡◌, refl, ◌∙◌, ap}
-use mathlib.Core.List.{flatten}
 use Prim.Native.Nat.{ℕ, zero, suc, ◌+◌, ◌*◌, ◌/◌, ◌%◌, ◌^◌, ◌≤◌, ◌<◌}
 use native.Mathlib.Nat.{div-add-mod, mod-lt, mul-add, mul-one, one-le-pow}
 use native.Mathlib.Omega.{arith}
@@ -66,7 +65,7 @@ abbrev pub decimal : ℕ → Decimal
 decimal i = get_or decimals i (plus 0 0)
 
 pub all_53 : (i : ℕ) → i < 109 → 0 < digits (decimal i) → (2 ^ 52 ≤ doubled (decimal i)) × (doubled (decimal i) < 2 ^ 53)
-unfolding decimals curves flatten nearest doublings
+unfolding decimals curves nearest doublings
 all_53 = rule (λ i. has53 (digits (decimal i)) (doubled (decimal i))) 109 tt
 
 tens_some : (x : Decimal) → 0 < tens x

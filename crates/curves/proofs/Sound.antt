@@ -1,6 +1,6 @@
 -- The test of `Spans`, computed over all forty curves for the line answers from 1 to 4095, in two halves: over the whole range at once
 -- the intervals would be too wide. Assumes nothing.
-use mathlib.Core.List.{List, flatten}
+use mathlib.Core.List.{List}
 use Prim.Native.Nat.{ℕ, ◌<◌}
 use lib.IntN.{ℤ}
 use Rattle.terms.proofs.Check.{Check, by, also, rule}
@@ -17,5 +17,5 @@ abbrev sound : (cs : List ℤ) → Check (Over 1 4095 (Steps cs) × Over 1 4095 
 sound cs = also (halves (steady 1 2047 cs) (steady 2048 4095 cs)) (halves (room 1 2047 cs) (room 2048 4095 cs))
 
 pub curves_sound : (k : ℕ) → k < 40 → Over 1 4095 (Steps (curve_of k)) × Over 1 4095 (Below (curve_of k))
-unfolding curve_of curves flatten coefficient magnitude scaled nearest doublings
+unfolding curve_of curves coefficient magnitude scaled nearest doublings
 curves_sound = rule (λ k. sound (curve_of k)) 40 tt

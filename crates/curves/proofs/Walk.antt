@@ -1,37 +1,50 @@
--- Horner's walk down a curve, read from its part of the flat table: how it begins, and a turn of it, which fits by the spans.
--- Assumes nothing.
-use mathlib.Core.Path.{◌≡◌, sym, ◌∙◌, ap}
-use Prim.Native.Nat.{ℕ, suc, ◌+◌, ◌-◌, ◌≤◌, ◌<◌}
+-- Horner's walk down a list of coefficients, from the last to the first. Assumes nothing.
+use mathlib.Core.Path.{◌≡◌, refl, sym, ◌∙◌, ap}
+use mathlib.Core.List.{List, [], ◌∷◌, ◌++◌}
+use Prim.Native.Nat.{ℕ, suc, ◌<◌}
+use native.Mathlib.Numerals.{add-one}
 use native.Mathlib.Omega.{arith}
 use lib.IntN.{ℤ, pos, ◌+ℤ◌, ◌*ℤ◌}
-use lib.ListN.{length, get_or, drop}
-use lib.Seq.{drop-length}
+use lib.ListN.{length, drop, length-append}
 use mir.Syntax.{w64}
 use mir.Val.{SFits}
+use Rattle.std.proofs.lemmas.List.{append_assoc, append-nil, nil_from_length}
+use Rattle.std.proofs.Math.Seq.{drop-append_seam, drop-append-add}
 use Rattle.curves.specs.Error.{horner}
-use Rattle.curves.specs.Flat.{curve_of, flat, Part, part_at}
-use Rattle.curves.proofs.Parts.{part_len, part_in, part_step}
-use Rattle.curves.proofs.Sound.{curves_sound}
+use Rattle.curves.specs.NothingLost.{Steps}
 
-module _ (k v : ℕ) (known : k < 40) {part : Part} (is : part ≡ part_at k) where
-  pub walk_start : (part.len ≤ length (curve_of k)) × (pos 0 ≡ horner (drop part.len (curve_of k)) v)
+-- `front` are still to come, and x is the polynomial of those behind them
+pub record Walk (coeffs front : List ℤ) (v : ℕ) (x : ℤ) : Type 0 where
+  pub done : List ℤ
+  pub all : front ++ done ≡ coeffs
+  pub so_far : x ≡ horner done v
+
+module _ (coeffs front : List ℤ) (v : ℕ) where
+  pub walk_start : front ≡ coeffs → Walk coeffs front v (pos 0)
   unfolding horner
-  walk_start =
-      let len : part.len ≡ length (curve_of k) = ap (λ (p : Part). p.len) is ∙ part_len k known in
-      (omega arith, rw (len, drop-length (curve_of k)))
+  walk_start e = record { done = []; all = append-nil front ∙ e; so_far = refl }
 
-  module _ (i : ℕ) (some : 0 < i) (within : i ≤ length (curve_of k)) where
-    back : suc (i - 1) ≡ i
-    back = omega arith
+  pub walk_end : (x : ℤ) → length front ≡ 0 → Walk coeffs front v x → x ≡ horner coeffs v
+  walk_end x none walk = walk.so_far ∙ ap (λ (cs : List ℤ). horner cs v) (rw (nil_from_length front none) at walk.all)
 
-    pub walk_in : part.start + (i - 1) < 109
-    walk_in = rw is (part_in k known (i - 1) (omega arith))
+  -- a turn takes in the last of them, c, which the machine reads back as b
+  module _ (x c b : ℤ) (walk : Walk coeffs front v x) (next : List ℤ) (last : front ≡ next ++ c ∷ []) (back : b ≡ c) where
+    all : next ++ (c ∷ walk.done) ≡ coeffs
+    all = sym (append_assoc next (c ∷ []) walk.done) ∙ rw (← last) walk.all
 
-    module _ {x c : ℤ} (so_far : x ≡ horner (drop i (curve_of k)) v) (next : c ≡ get_or flat (part.start + (i - 1)) (pos 0)) where
-      pub walk_more : x *ℤ pos v +ℤ c ≡ horner (drop (i - 1) (curve_of k)) v
-      walk_more = sym (part_step k known (i - 1) (omega arith) v ∙ rw (back, ← is, ← next, ← so_far))
+    sum : x *ℤ pos v +ℤ b ≡ horner (c ∷ walk.done) v
+    unfolding horner
+    sum = rw (back, walk.so_far)
 
-      pub walk_fits : 1 ≤ v → v ≤ 4095 → SFits w64 (x *ℤ pos v) × SFits w64 (x *ℤ pos v +ℤ c)
-      walk_fits least most =
-          let step = (curves_sound k known).0 v least most (i - 1) (omega arith) in
-          (rw (so_far, ← back) step.0, rw walk_more step.1)
+    some : length next < length coeffs
+    some = rw (← all, length-append) (omega arith)
+
+    pub walk_fits : Steps coeffs v → SFits w64 (x *ℤ pos v) × SFits w64 (x *ℤ pos v +ℤ b)
+    walk_fits steps =
+        let step = steps (length next) some in
+        let before : drop (length next) coeffs ≡ c ∷ walk.done = rw (← all) (drop-append_seam next (c ∷ walk.done)) in
+        let behind : drop (suc (length next)) coeffs ≡ walk.done = rw (← all, ← add-one) (drop-append-add next (c ∷ walk.done) 1) in
+        (rw (walk.so_far, ← behind) step.0, rw (sum, ← before) step.1)
+
+    pub walk_more : (y : ℤ) → y ≡ x *ℤ pos v +ℤ b → Walk coeffs next v y
+    walk_more y e = record { done = c ∷ walk.done; all = all; so_far = e ∙ sum }

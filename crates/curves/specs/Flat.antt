@@ -1,36 +1,28 @@
 -- Document 01, "What must change shape": "Coefficient slices of unequal length become one flat table with starts and lengths". This is
 -- that table as the decimals make it, for the private functions that read it; no public promise goes by it.
-use mathlib.Core.List.{List, [], ◌∷◌, map, flatten}
-use Rattle.std.specs.Prelude.{ℕ, ◌+◌, ℤ, length, get_or}
+use Rattle.std.specs.Prelude.{Bool, ◌&&◌, List, [], map, ℕ, eqb, ltb, ℤ, length, get_or, take}
+use Rattle.std.specs.List.{flat_map}
 use Rattle.curves.specs.Decimal.{Decimal, coefficient}
 use Rattle.curves.specs.Curves.{by_atten, tables}
 
 -- the curves of all tables: that of table t at attenuation a is curve 4 t + a
 unfoldable pub curves : List (List Decimal)
-curves = flatten (map by_atten tables)
+curves = flat_map by_atten tables
 
 unfoldable pub curve_of : ℕ → List ℤ
 curve_of k = map coefficient (get_or curves k [])
 
--- their decimals, one curve after the other
+-- curves' decimals, one curve after the other
+abbrev pub joined : List (List Decimal) → List Decimal
+joined cs = flat_map (λ c. c) cs
+
 unfoldable pub decimals : List Decimal
-decimals = flatten curves
+decimals = joined curves
 
 -- and their coefficients
 unfoldable pub flat : List ℤ
 flat = map coefficient decimals
 
--- where each curve starts among them, and how many it has; the first starts at n
-pub record Part : Type 0 where
-  pub start : ℕ
-  pub len : ℕ
-
-abbrev pub part : ℕ → ℕ → Part
-part start len = record { start = start; len = len }
-
-abbrev pub parts_from : ℕ → List (List Decimal) → List Part
-parts_from n [] = []
-parts_from n (c ∷ cs) = part n (length c) ∷ parts_from (n + length c) cs
-
-unfoldable pub part_at : ℕ → Part
-part_at k = get_or (parts_from 0 curves) k (part 0 0)
+-- whether curve k is one of the forty, begins at `start` among them and has `len`
+abbrev pub is_part : ℕ → ℕ → ℕ → Bool
+is_part k start len = ltb k 40 && (eqb start (length (joined (take k curves))) && eqb len (length (get_or curves k [])))

@@ -2,13 +2,12 @@
 // goes by its number in the flat table.
 ghost use Rattle.std.specs.Prelude.{◌≡◌, ◌<◌, ◌≤◌};
 ghost use Rattle.curves.specs.Error.{error_of, corrected_of, less_error_of};
-ghost use Rattle.curves.specs.Curves.{curve_in};
-ghost use Rattle.curves.specs.Curves.{numbered};
+ghost use Rattle.curves.specs.Curves.{curve_in, numbered};
 
 use crate::polynomial::poly_at;
 
 // What a coefficient of 1 stands as.
-const COEFF_MUL: i64 = 4503599627370496;
+const COEFF_MUL: i64 = 1 << 52;
 
 pub const LAST_TABLE: u8 = 9;
 
@@ -37,16 +36,11 @@ fn taken_off(table: u8, atten: u8, v: u16) -> u16
 
 // A line answer less its error by a table at an attenuation; 0 where there is no such table or attenuation, and for a line answer above
 // 4095, which callers refuse before.
+#[tactic(auto, unfolding(crate::specs::Error::less_error_of))]
 pub fn less_error(table: u8, atten: u8, v: u16) -> u16
     ensures { result ≡ less_error_of table atten v }
 {
-    if LAST_TABLE < table {
-        return 0;
-    }
-    if LAST_ATTEN < atten {
-        return 0;
-    }
-    if LARGEST_LINE < v {
+    if LAST_TABLE < table || LAST_ATTEN < atten || LARGEST_LINE < v {
         return 0;
     }
     taken_off(table, atten, v)

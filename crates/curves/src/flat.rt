@@ -4,7 +4,7 @@ ghost use Rattle.std.specs.Prelude.{◌≡◌};
 ghost use Rattle.curves.specs.Flat.{flat};
 
 // With 52 fractional bits; of each curve the constant coefficient comes first.
-const COEFFS: [i64; 109] = [
+static COEFFS: [i64; 109] = [
     // esp32c3 CURVES_COEFFS1, 0 dB
     -1017662512342219,
     -3272053605806,
@@ -155,8 +155,8 @@ const COEFFS: [i64; 109] = [
 ];
 
 // The flat table.
-pub(crate) fn coeffs() -> [i64; 109]
-    ensures { result ≡ flat }
+pub(crate) fn coeffs() -> &'static [i64]
+    ensures { result.now ≡ flat }
 {
-    COEFFS
+    &COEFFS
 }

@@ -1,12 +1,8 @@
-use mathlib.Core.Path.{◌≡◌}
-use Prim.Native.Nat.{◌≤◌}
-use lib.ListN.{length, drop}
-use Rattle.curves.specs.Error.{horner}
-use Rattle.curves.specs.Flat.{curve_of}
+use Rattle.std.specs.Iterator.Adapters.{rev_source}
+use Rattle.std.specs.Slice.Iter.{iter_rest}
+use Rattle.curves.proofs.Walk.{Walk}
 use Rattle.curves.proofs.polynomial.poly.Given as goal
 
-abbrev pub invariant-loop-i : goal.invariant-loop-i
-invariant-loop-i l = (l.i ≤ length (curve_of l.k)) × (l.poly ≡ horner (drop l.i (curve_of l.k)) l.v)
-
-abbrev pub decreases-loop-i : goal.decreases-loop-i
-decreases-loop-i l = l.i
+-- poly is the polynomial of the coefficients behind those that are still to come
+abbrev pub invariant-loop-c : goal.invariant-loop-c
+invariant-loop-c l = Walk l.coeffs (iter_rest (rev_source l.c-iterator)) l.v l.poly
