@@ -4,8 +4,7 @@ use Rattle.terms.specs.declared.chip.Chip.{Chip}
 use Rattle.terms.specs.declared.quantity.Millivolt.{Millivolt}
 use Rattle.terms.specs.Refusal.{plain}
 use Rattle.terms.specs.Says.{Says}
-use Rattle.terms.specs.Voltage.{refusal_of, value_of}
-use Rattle.terms.proofs.Says.{says, voltage_paper}
+use Rattle.terms.proofs.Says.{says}
 use Rattle.curve.specs.Table.{table_of}
 use Rattle.curves.specs.Curves.{curve_in}
 use Rattle.curves.specs.Error.{corrected_of}
@@ -13,8 +12,8 @@ use Rattle.curve.specs.Correct.{correct_refusal, correct_of}
 
 -- `correct`
 pub correct_says : (chip : Chip) (unit atten : ℕ) (line : Millivolt)
-    → Says refusal_of value_of (record { 0 = 0 })
+    → Says (record { 0 = 0 })
     (correct_of chip unit atten line) (plain (correct_refusal chip unit atten line))
     (record { 0 = corrected_of (curve_in (table_of chip unit) atten) line.0 })
 unfolding correct_of
-correct_says chip unit atten line = says voltage_paper _ _
+correct_says chip unit atten line = says _ _ _
