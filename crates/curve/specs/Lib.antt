@@ -1,3 +1,4 @@
 pub mod Correct
+pub mod Private
 pub mod Table
 pub mod When

@@ -1,12 +1,11 @@
 -- Document 01, "S2, C6 and curves": which table a chip's unit has. In esp-hal: `curves_coeffs` of `AdcHasCurveCal`,
 -- calibration/curve.rs.
 use Rattle.std.specs.Prelude.{Bool, true, false, cond, ℕ, eqb}
-use Rattle.std.specs.Prelude as rust
 use Rattle.std.proofs.Math.Option.{Option, none, some}
 use Rattle.terms.specs.declared.chip.Chip.{Chip}
 use Rattle.terms.specs.declared.chip.Chip.TheVariants.{Esp32, S2, C3, C5, C6, C61, H2, P4, S3}
 use Rattle.terms.specs.C6Version.{version_of}
-use Rattle.curves.specs.Curves.{Table, numbered}
+use Rattle.curves.specs.Curves.{Table}
 use Rattle.curves.specs.Curves.{c3_coeffs1, c5_coeffs1, c6_coeffs1, c61_coeffs1, c6_coeffs1_v2, h2_coeffs1, p4_coeffs1, p4_coeffs2, s3_coeffs1, s3_coeffs2}
 
 -- "ESP32 and S2 have no curve. A C6 takes its second table if its version by the rule above is 2, else its first"
@@ -40,8 +39,3 @@ table_of chip unit = cond (eqb unit 0) (unit0_table chip) (unit1_table chip)
 abbrev pub missing : Option Table → Bool
 missing none = true
 missing (some t) = false
-
--- the table of a number, where the code has one
-abbrev pub found : rust.Option ℕ → Option Table
-found rust.None = none
-found (rust.Some t) = numbered t

@@ -1,7 +1,8 @@
 // Which of the ten tables a chip's unit has: `curves_coeffs` of esp-hal's `AdcHasCurveCal`, calibration/curve.rs. A table goes by its
 // number in the flat table.
 ghost use Rattle.std.specs.Prelude.{◌≡◌, ◌≤◌, IfSome};
-ghost use Rattle.curve.specs.Table.{found, table_of};
+ghost use Rattle.curve.specs.Private.{found};
+ghost use Rattle.curve.specs.Table.{table_of};
 
 use terms::c6_version::rtc_calib_version;
 use terms::chip::Chip;

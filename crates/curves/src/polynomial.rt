@@ -42,7 +42,7 @@ fn part(k: u8, start: usize, len: usize, v: u16) -> i64
 
 // The error polynomial of curve k at v. Each arm gives a curve's start in the flat table and its length as numbers that are known when
 // this is compiled, so that no table is left in the code, but each curve's own few steps with its own coefficients.
-// Kept: an arm a curve: with a `static` of starts and lengths, read when it runs, a call took 6.8 to 8.1 ns for 4.5 to 5.5 (tried in Rust).
+// Kept: an arm a curve: with a `static` of starts and lengths, read when it runs, calls by one curve took 1.3 to 1.6 times as long (in Rust).
 #[tactic(auto, unfolding(crate::specs::Flat::curves))]
 pub(crate) fn poly_at(k: u8, v: u16) -> i64
     requires { (k < 40) × (1 ≤ v) × (v ≤ 4095) }
