@@ -68,7 +68,7 @@ read_eights : (dump : List ℕ) (f : EfuseField) → read_refusal eights dump f 
 unfolding read_refusal field_refusal_01
 read_eights dump f = rw (dump_eights dump, place_eights f)
 
--- `read_field_u8`, `read_field_u16`, `read_field_u32`, by the width, and `read_field_le`
+-- `read_field`, by the width, and `read_field_le`
 pub field_read : (width : ℕ) (dump : List ℕ) (f : EfuseField) → read_of width eights dump f ≡ read_01 width dump f
 unfolding read_of
 field_read width dump f = rw (read_eights dump f)
@@ -77,7 +77,7 @@ pub field_bytes : (dump : List ℕ) (f : EfuseField) (lent : List ℕ) → bytes
 unfolding bytes_read
 field_bytes dump f lent = rw (read_eights dump f)
 
--- `view_refusal` and `view`
+-- `check_view` and `view`
 module _ (field reference : Lent) (board block : ℕ) where
   pub view_number : view_refusal eights field reference board block ≡ view_refusal_01 field reference board block
   unfolding view_refusal block_refusal view_refusal_01

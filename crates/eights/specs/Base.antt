@@ -1,35 +1,23 @@
 -- Document 01's answers, as they were before document 02, #109: "blocks 0 to 10, eight words each", and no list. What has no block in it is
 -- the definition that stands. By #102 a map's refusals tell their record; what decoding gives by #104 and #106 has no part in it.
-use Rattle.std.specs.Prelude.{false, not, cond, ◌||◌, List, ℕ, ◌+◌, ◌*◌, min, ltb, eqb, nat_abs, length}
+use Rattle.std.specs.Prelude.{Result, Bool, ℤ, false, not, cond, ◌||◌, List, ℕ, ◌+◌, ◌*◌, min, ltb, eqb, nat_abs, length}
 use Rattle.terms.specs.declared.chip.MapChip.{MapChip}
 use Rattle.terms.specs.declared.chip.MapChip.TheVariants.{Esp32, S2, C6}
-use Rattle.terms.specs.declared.code.Code.{Code}
-use Rattle.terms.specs.declared.code.Code.TheVariants.{Value as Coded, Refused as No-code}
-use Rattle.terms.specs.declared.reading.Reading.{Reading}
-use Rattle.terms.specs.declared.reading.Reading.TheVariants.{Value as Is, Refused as No-reading}
 use Rattle.terms.specs.declared.refusal.Refusal.{Refusal}
-use Rattle.terms.specs.declared.voltage.Voltage.{Voltage}
-use Rattle.terms.specs.declared.voltage.Voltage.TheVariants.{Value as Volts, Refused as No-voltage}
+use Rattle.terms.specs.declared.quantity.Millivolt.{Millivolt}
 use Rattle.terms.specs.Refusal.{refuse, or_else, by_number, first_of, first_at, told, answered, unit_refusal, raw_refusal}
 use Rattle.dumps.specs.View.{Lent, Seen, board_dump, part_of}
 use Rattle.efuse.specs.declared.field.EfuseField.{EfuseField}
-use Rattle.efuse.specs.declared.field.Read.{Read}
-use Rattle.efuse.specs.declared.field.Read.TheVariants.{Value as Bits, Refused as No-bits}
 use Rattle.efuse.specs.Field.{field_bits, bytes_of}
 use Rattle.maps.specs.Map.{record_byte, field_of, stray_of, ids_of, count_refusal}
 use Rattle.maps.specs.Told.{of_record}
-use Rattle.line_record.specs.declared.decoded.Decoded.{Decoded}
-use Rattle.line_record.specs.declared.decoded.Decoded.TheVariants.{Record, Refused as No-record}
+use Rattle.line_record.specs.declared.record.LineRecord.{LineRecord}
 use Rattle.line.specs.Convert.{answer_at}
 use Rattle.esp32.specs.Characterize.{basis_refusal}
 use Rattle.esp32.specs.Decode.{basis_of, decoded_record}
 use Rattle.s2_readings.specs.declared.tag.RtcCalibParam.{RtcCalibParam}
 use Rattle.s2_readings.specs.Reading.{reading_of}
 use Rattle.s2_readings.specs.Tag.{tag_of}
-use Rattle.esp32s2.specs.declared.encryption.FlashEncryption.{FlashEncryption}
-use Rattle.esp32s2.specs.declared.encryption.FlashEncryption.TheVariants.{Value as Encrypted, Refused as No-encryption}
-use Rattle.esp32s2.specs.declared.version.Version.{Version}
-use Rattle.esp32s2.specs.declared.version.Version.TheVariants.{Value as Versioned, Refused as No-version}
 use Rattle.esp32s2.specs.Encryption.{odd_ones}
 use Rattle.esp32s2.specs.Version.{version_of}
 use Rattle.maps.specs.Value.{value_by_id}
@@ -54,8 +42,8 @@ place_01 f =
 unfoldable pub field_refusal_01 : List ℕ → EfuseField → ℕ
 field_refusal_01 dump f = or_else (dump_01 dump) (place_01 f)
 
-abbrev pub read_01 : ℕ → List ℕ → EfuseField → Read
-read_01 width dump f = answered (field_refusal_01 dump f) (Bits (field_bits width dump f)) No-bits
+abbrev pub read_01 : ℕ → List ℕ → EfuseField → Result ℕ Refusal
+read_01 width dump f = answered (field_refusal_01 dump f) (field_bits width dump f)
 
 abbrev pub bytes_read_01 : List ℕ → EfuseField → List ℕ → List ℕ
 bytes_read_01 dump f lent = by_number (field_refusal_01 dump f) (bytes_of dump f (length lent)) lent
@@ -109,46 +97,45 @@ unfoldable pub decode_refusal_01 : List ℕ → List ℕ → ℕ → ℕ → ℕ
 decode_refusal_01 dump map unit atten =
     or_else (decoding_01 Esp32 dump map unit atten) (basis_refusal unit atten (basis_of dump map unit))
 
-abbrev pub decode_01 : List ℕ → List ℕ → ℕ → ℕ → Decoded
+abbrev pub decode_01 : List ℕ → List ℕ → ℕ → ℕ → Result LineRecord Refusal
 decode_01 dump map unit atten =
-    told (told_01 Esp32 map (decode_refusal_01 dump map unit atten)) (Record (decoded_record dump map unit atten)) No-record
+    told (told_01 Esp32 map (decode_refusal_01 dump map unit atten)) (decoded_record dump map unit atten)
 
 -- the S2: its version and flash encryption, its readings with 1, 7, and its codes with 12
-abbrev pub version_01 : List ℕ → List ℕ → Version
-version_01 dump map = told (told_01 S2 map (fields_01 S2 dump map)) (Versioned (version_of dump map)) No-version
+abbrev pub version_01 : List ℕ → List ℕ → Result ℕ Refusal
+version_01 dump map = told (told_01 S2 map (fields_01 S2 dump map)) (version_of dump map)
 
-abbrev pub encryption_01 : List ℕ → List ℕ → FlashEncryption
-encryption_01 dump map = told (told_01 S2 map (fields_01 S2 dump map)) (Encrypted (odd_ones (value_by_id S2 dump map 8))) No-encryption
+abbrev pub encryption_01 : List ℕ → List ℕ → Result Bool Refusal
+encryption_01 dump map = told (told_01 S2 map (fields_01 S2 dump map)) (odd_ones (value_by_id S2 dump map 8))
 
-abbrev pub reading_01 : List ℕ → ℕ → ℕ → ℕ → RtcCalibParam → Reading
+abbrev pub reading_01 : List ℕ → ℕ → ℕ → ℕ → RtcCalibParam → Result ℤ Refusal
 reading_01 dump version unit atten param =
-    answered (or_else (dump_01 dump) (unit_refusal unit atten)) (Is (reading_of dump false (tag_of version unit atten param))) No-reading
+    answered (or_else (dump_01 dump) (unit_refusal unit atten)) (reading_of dump false (tag_of version unit atten param))
 
 unfoldable pub code_refusal_01 : List ℕ → List ℕ → ℕ → ℕ → ℕ
 code_refusal_01 dump map unit atten =
     or_else (decoding_01 S2 dump map unit atten) (refuse (not (eqb (version_of dump map) 2)) 12 0)
 
-abbrev pub code_01 : List ℕ → List ℕ → ℕ → ℕ → RtcCalibParam → Code
+abbrev pub code_01 : List ℕ → List ℕ → ℕ → ℕ → RtcCalibParam → Result ℕ Refusal
 code_01 dump map unit atten param =
-    told (told_01 S2 map (code_refusal_01 dump map unit atten)) (Coded (nat_abs (reading_of dump false (tag_of 2 unit atten param)))) No-code
+    told (told_01 S2 map (code_refusal_01 dump map unit atten)) (nat_abs (reading_of dump false (tag_of 2 unit atten param)))
 
 -- the C6: its codes with 12, and its compensation
 unfoldable pub c6_refusal_01 : List ℕ → List ℕ → ℕ → ℕ → ℕ → ℕ
 c6_refusal_01 dump map minor unit atten = or_else (decoding_01 C6 dump map unit atten) (version_refusal minor)
 
-abbrev pub c6_init_01 : List ℕ → List ℕ → ℕ → ℕ → ℕ → Code
+abbrev pub c6_init_01 : List ℕ → List ℕ → ℕ → ℕ → ℕ → Result ℕ Refusal
 c6_init_01 dump map minor unit atten =
-    told (told_01 C6 map (c6_refusal_01 dump map minor unit atten)) (Coded (value_by_id C6 dump map (9 + atten) + 1600)) No-code
+    told (told_01 C6 map (c6_refusal_01 dump map minor unit atten)) (value_by_id C6 dump map (9 + atten) + 1600)
 
-abbrev pub c6_cal_01 : List ℕ → List ℕ → ℕ → ℕ → ℕ → Code
+abbrev pub c6_cal_01 : List ℕ → List ℕ → ℕ → ℕ → ℕ → Result ℕ Refusal
 c6_cal_01 dump map minor unit atten =
     told (told_01 C6 map (c6_refusal_01 dump map minor unit atten))
-    (Coded (nat_abs (cal_code (version_c6 minor) atten (value_by_id C6 dump map (13 + atten)))))
-    No-code
+    (nat_abs (cal_code (version_c6 minor) atten (value_by_id C6 dump map (13 + atten))))
 
-abbrev pub compens_01 : List ℕ → List ℕ → ℕ → ℕ → ℕ → Reading
+abbrev pub compens_01 : List ℕ → List ℕ → ℕ → ℕ → ℕ → Result ℤ Refusal
 compens_01 dump map unit channel atten =
-    told (told_01 C6 map (decoding_01 C6 dump map unit atten)) (Is (compens_of atten (value_by_id C6 dump map (17 + min channel 6)))) No-reading
+    told (told_01 C6 map (decoding_01 C6 dump map unit atten)) (compens_of atten (value_by_id C6 dump map (17 + min channel 6)))
 
 -- a sample: "15, then decoding, then 8"
 unfoldable pub sample_decode_refusal_01 : List ℕ → List ℕ → List ℕ → Sample → ℕ
@@ -156,15 +143,14 @@ sample_decode_refusal_01 field reference map s =
     or_else (board_refusal s)
     (decode_refusal_01 (board_dump field reference s.board) map (unit_of s) (atten_of s))
 
-abbrev pub sample_decoded_01 : List ℕ → List ℕ → List ℕ → Sample → Decoded
+abbrev pub sample_decoded_01 : List ℕ → List ℕ → List ℕ → Sample → Result LineRecord Refusal
 sample_decoded_01 field reference map s =
-    told (told_01 Esp32 map (sample_decode_refusal_01 field reference map s)) (Record (sample_record field reference map s)) No-record
+    told (told_01 Esp32 map (sample_decode_refusal_01 field reference map s)) (sample_record field reference map s)
 
 unfoldable pub sample_refusal_01 : List ℕ → List ℕ → List ℕ → Sample → ℕ
 sample_refusal_01 field reference map s = or_else (sample_decode_refusal_01 field reference map s) (raw_refusal s.raw.0)
 
-abbrev pub sample_01 : List ℕ → List ℕ → List ℕ → Sample → Voltage
+abbrev pub sample_01 : List ℕ → List ℕ → List ℕ → Sample → Result Millivolt Refusal
 sample_01 field reference map s =
     told (told_01 Esp32 map (sample_refusal_01 field reference map s))
-    (Volts (record { 0 = answer_at (sample_record field reference map s) s.raw.0 }))
-    No-voltage
+    (record { 0 = answer_at (sample_record field reference map s) s.raw.0 })

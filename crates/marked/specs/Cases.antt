@@ -1,18 +1,18 @@
 -- Document 01, "Marked cases, one list under one statement", as document 02 has changed them: what each case asks of the library's
 -- definitions, and what it must be.
 use mathlib.Core.List.{List, [], ◌∷◌, ◌++◌, map, flatten}
-use Rattle.std.specs.Prelude.{ℕ, ◌+◌, ◌*◌, ◌-◌, ◌^◌, ℤ, pos, neg_ℤ, replicate}
+use Rattle.std.specs.Prelude.{Result, ℕ, ◌+◌, ◌*◌, ◌-◌, ◌^◌, ℤ, pos, neg_ℤ, replicate}
 use Rattle.terms.specs.declared.chip.Chip.{Chip}
 use Rattle.terms.specs.declared.chip.Chip.TheVariants.{C3, S3}
-use Rattle.terms.specs.Code.{value_of as code_value}
-use Rattle.terms.specs.Reading.{value_of as reading_value}
-use Rattle.terms.specs.Voltage.{value_of as voltage_of}
+use Rattle.terms.specs.declared.quantity.Millivolt.{Millivolt}
+use Rattle.terms.specs.declared.refusal.Refusal.{Refusal}
+use Rattle.terms.specs.Refusal.{refusal_of, value_of}
 use Rattle.dumps.specs.Lengths.{eights}
 use Rattle.line_record.specs.declared.record.LineRecord.{LineRecord}
 use Rattle.esp32.specs.Code.{vref_of, two_point_code, low_of, high_of}
 use Rattle.esp32.specs.Characterize.{top_of}
 use Rattle.esp32.specs.Decode.{decode_of}
-use Rattle.line_record.specs.Decoded.{refusal_of as refusal_decoded, value_of as record_decoded}
+use Rattle.line_record.specs.Record.{no_record}
 use Rattle.line.specs.Convert.{convert_of}
 use Rattle.s2_readings.specs.declared.tag.RtcCalibParam.{RtcCalibParam}
 use Rattle.s2_readings.specs.declared.tag.RtcCalibParam.TheVariants.{Vhigh, Vinit}
@@ -55,25 +55,29 @@ two_points low high = 256 ∷ replicate 7 0 ++ ((low + 256 + 65536 * high) ∷ 1
 
 -- the record of unit 0 at 11 dB, and its a and b
 abbrev decoded : List ℕ → LineRecord
-decoded dump = record_decoded (decode_of eights dump mapped 0 3)
+decoded dump = value_of no_record (decode_of eights dump mapped 0 3)
 
 abbrev a_and_b : List ℕ → List ℕ
 a_and_b dump = (decoded dump).coeff_a ∷ (decoded dump).coeff_b ∷ []
 
+-- a voltage's millivolts
+abbrev millivolts : Result Millivolt Refusal → ℕ
+millivolts voltage = (value_of (record { 0 = 0 }) voltage).0
+
 -- the millivolts of a count by the record of a zero dump, whose Vref is 1100
 abbrev converted : ℕ → ℕ
-converted raw = (voltage_of (convert_of (decoded (filled_with 0)) raw)).0
+converted raw = millivolts (convert_of (decoded (filled_with 0)) raw)
 
 -- t of unit 0's codes, and the number of their decoding at an attenuation
 abbrev top : ℕ → ℕ → ℕ
 top low high = top_of (low_of 0 low) (high_of 0 high)
 
 abbrev number : ℕ → ℕ → ℕ → ℕ
-number low high atten = (refusal_decoded (decode_of eights (two_points low high) mapped 0 atten)).number
+number low high atten = (refusal_of (decode_of eights (two_points low high) mapped 0 atten)).number
 
 -- the S2's reading of version 2. Its tags are unit × 4 + attenuation after 17 for the high reading, after 25 for the initial code
 abbrev reading : List ℕ → ℕ → ℕ → RtcCalibParam → ℤ
-reading dump unit atten param = reading_value (calib_reading_of eights dump 2 unit atten param)
+reading dump unit atten param = value_of (pos 0) (calib_reading_of eights dump 2 unit atten param)
 
 -- a C6 map whose fields all start at bit 0 of block 1, so that in a dump of equal words each has the low bits of the word
 abbrev fields : ℕ → List ℕ → List (List ℕ)
@@ -89,14 +93,14 @@ mapped_c6 =
 
 -- the C6's reference code and the compensation of channel 0, of unit 0, by the bits of the field
 abbrev reference_code : ℕ → ℕ → ℕ → ℕ
-reference_code minor atten bits = code_value (cal_code_of eights (filled_with bits) mapped_c6 minor 0 atten)
+reference_code minor atten bits = value_of 0 (cal_code_of eights (filled_with bits) mapped_c6 minor 0 atten)
 
 abbrev compensation : ℕ → ℕ → ℤ
-compensation bits atten = reading_value (chan_compens_of eights (filled_with bits) mapped_c6 0 0 atten)
+compensation bits atten = value_of (pos 0) (chan_compens_of eights (filled_with bits) mapped_c6 0 0 atten)
 
 -- the curve's answer to a line answer of 1 mV, at 11 dB
 abbrev corrected : Chip → ℕ → ℕ
-corrected chip unit = (voltage_of (correct_of chip unit 3 (record { 0 = 1 }))).0
+corrected chip unit = millivolts (correct_of chip unit 3 (record { 0 = 1 }))
 
 abbrev pub cases : List Case
 cases =
