@@ -4,7 +4,7 @@ use Rattle.std.proofs.Common.{◌≡◌, ℕ, ◌≤◌, false, List, pos, sym, 
 use lib.Signed.{lt_z}
 use Rattle.terms.specs.declared.chip.MapChip.TheVariants.{Esp32}
 use Rattle.terms.specs.declared.refusal.Refusal.{Refusal}
-use Rattle.std.specs.Prelude.{Result, Ok, Err}
+use Rattle.std.specs.Prelude.{Ok, Err}
 use Rattle.terms.specs.Refusal.{plain, answered, outcome_told}
 use Rattle.terms.proofs.Refusals.{or_else_none, or_else_some, number_is, told_refused, went_well, was_refused}
 use Rattle.inputs.specs.Input.{fields_refusal, decoding_refusal}

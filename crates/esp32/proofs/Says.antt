@@ -1,5 +1,5 @@
 -- The refusal and the values of each answer are document 01's. Assumes nothing.
-use Rattle.std.proofs.Common.{◌≡◌, ℕ, List, sym, refl, ap, ◌∙◌}
+use Rattle.std.proofs.Common.{◌≡◌, ℕ, List, sym, ap, ◌∙◌}
 use Rattle.terms.specs.declared.chip.MapChip.TheVariants.{Esp32}
 use Rattle.std.specs.Prelude.{Ok}
 use Rattle.terms.specs.Refusal.{refusal_of, value_of}

@@ -6,8 +6,8 @@ ghost use Rattle.inputs.specs.Input.{fields_refusal, decoding_refusal};
 ghost use Rattle.esp32.specs.Characterize.{basis_refusal};
 ghost use Rattle.esp32.specs.Decode.{basis_of, source_of, found_of, record_from, decode_of};
 
-use crate::characterize::Basis;
-use crate::{characterize, code};
+use crate::characterize::{Basis, Setting};
+use crate::code;
 use inputs::input::check_decoding;
 use line_record::record::{LineRecord, Source};
 use maps::value::record_value;
@@ -74,17 +74,20 @@ fn find(dump: &[u32], lengths: &[u8], map: &[u8], unit: u8, atten: u8) -> Result
 {
     let basis = basis(dump, lengths, map, unit);
     let vref = record_value(dump, lengths, map, ADC_VREF);
-    let line = characterize::characterize(unit, atten, code::efuse_vref(vref), basis)?;
+    let line = Setting { unit, atten }.characterize(code::efuse_vref(vref), basis)?;
     Ok(Found { basis, vref, line })
 }
 
 // The source of a record whose a and b come from there: without the codes.
-fn source(basis: Basis) -> Source
-    ensures { result ≡ source_of basis }
-{
-    match basis {
-        Basis::TwoPoint(_, _) => Source::TwoPoint,
-        Basis::Vref => Source::Vref,
+impl From<Basis> for Source {
+    ghost from_gives = { λ basis source. source ≡ source_of basis };
+
+    #[tactic(auto, unfolding(crate::specs::Decode::source_of))]
+    fn from(basis: Basis) -> Source {
+        match basis {
+            Basis::TwoPoint(_, _) => Source::TwoPoint,
+            Basis::Vref => Source::Vref,
+        }
     }
 }
 
@@ -94,14 +97,13 @@ fn record_from(found: Found, unit: u8, atten: u8) -> LineRecord
     ensures { result ≡ record_from found unit atten }
 {
     let line = found.line;
-    let basis = found.basis;
     LineRecord {
         coeff_a: line.a,
         coeff_b: line.b,
         vref: code::efuse_vref(found.vref),
         unit,
         atten,
-        source: source(basis),
+        source: Source::from(found.basis),
     }
 }
 

@@ -1,7 +1,7 @@
 -- `esp32::two_point_b` meets its contract: the test says which sign b has, and where it has none 850 and the offset are at least t.
 use Rattle.std.proofs.Common.{ap}
 use Rattle.std.specs.Prelude.{Ok}
-use Rattle.terms.proofs.Refusals.{answered_good, answered_refused}
+use Rattle.terms.proofs.Refusals.{answered_good}
 use Rattle.esp32.proofs.Coefficients.{b_negative, b_not_negative, b_refused, b_good, two_point_b_is}
 use Rattle.esp32.proofs.characterize.two_point_b.Goals as goal
 

@@ -1,5 +1,5 @@
 -- `esp32::basis` meets its contract: at each `return` the fields read so far say which basis it is.
-use Rattle.esp32.proofs.Bases.{no_reserve, no_low1, no_low2, no_high1, no_high2, all_codes}
+use Rattle.esp32.proofs.Bases.{no_reserve, no_low1, no_low2, no_high1, all_codes}
 use Rattle.esp32.proofs.decode.basis.Goals as goal
 
 pub returns-then-record_value-ne1 : goal.returns-then-record_value-ne1

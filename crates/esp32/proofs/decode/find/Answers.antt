@@ -26,11 +26,14 @@ basis-basis-requires c = (decoding_good _ _ _ _ _ _ c.requires).0
 pub efuse_vref-requires : goal.efuse_vref-requires
 efuse_vref-requires c = rw (vref (goal.at.efuse_vref-requires c).After-record_value-vref) (vref_fits _ _ _ (good (goal.at.efuse_vref-requires c).After-record_value-vref))
 
+pub invariant_of-characterize : goal.invariant_of-characterize
+invariant_of-characterize c = record { inside = (decoding_good _ _ _ _ _ _ c.requires).1 }
+
 pub characterize-requires : goal.characterize-requires
 characterize-requires c =
     let p = decoding_good _ _ _ _ _ _ c.requires in
     rw (c.efuse_vref.ensures, vref (goal.at.characterize-requires c).After-record_value-vref, c.basis-basis.ensures)
-    (p.1.0, p.1.1, (vref_range (vref_fits _ _ _ p.0)).1, basis_in_bits _ _ _ p.0 _)
+    ((vref_range (vref_fits _ _ _ p.0)).1, basis_in_bits _ _ _ p.0 _)
 
 pub returns-in_err-line : goal.returns-in_err-line
 returns-in_err-line c =
