@@ -23,6 +23,7 @@ pub(crate) fn ramp(slope: Slope, divisor: u32, out: &mut [u16])
 }
 
 // Writes the blends of the line's and the lookup's quotients, where x of the blend's 64 counts are gone at the first.
+// Kept: `gone`, counted by hand; taken from the index of `enumerate()` it made the blend 3 to 6 percent slower.
 pub(crate) fn blend_ramps(line: Slope, lut: Slope, x: u32, out: &mut [u16])
     requires { Blended line lut x (length out.old) }
     ensures { out.new ≡ tab (λ k. blend_of (along line k / 65536) (along lut k / 12800) (x + k)) (length out.old) }
