@@ -1,6 +1,6 @@
 -- Laws of field maps: every id is in the table, and so is a bit count that isn't refused; which case the refusal of a record and of
 -- a map is; each field of a map that passes is read without refusal. Assumes nothing.
-use mathlib.Core.Path.{◌≡◌, sym, ◌∙◌, ap}
+use mathlib.Core.Path.{◌≡◌, refl, sym, ◌∙◌, ap}
 use mathlib.Core.Bool.{Bool, not, ◌||◌}
 use mathlib.Core.List.{List}
 use Prim.Native.Nat.{ℕ, ◌+◌, ◌*◌, ◌≤◌, ◌<◌}
@@ -10,8 +10,10 @@ use lib.Dec.{ltb, eqb, lit≤}
 use borrow.Author.Tests.{ltb-false, eq-eqb, ne_eqb}
 use Rattle.terms.specs.declared.chip.MapChip.{MapChip}
 use Rattle.terms.specs.declared.chip.MapChip.TheVariants.{Esp32, S2, C6}
-use Rattle.terms.specs.Refusal.{first_of}
-use Rattle.terms.proofs.Refusals.{refuse_none, or_none, or_else_none, or_else_some, or_else_given, first_each}
+use Rattle.std.specs.Prelude.{Result, Ok, Err}
+use Rattle.terms.specs.declared.refusal.Refusal.{Refusal}
+use Rattle.terms.specs.Refusal.{first_of, outcome_of}
+use Rattle.terms.proofs.Refusals.{refuse_none, or_none, or_else_none, or_else_some, or_else_given, first_each, went_well, was_refused}
 use Rattle.dumps.specs.Dump.{dump_refusal}
 use Rattle.dumps.specs.Lengths.{lengths_refusal}
 use Rattle.efuse.specs.declared.field.EfuseField.{EfuseField}
@@ -58,6 +60,15 @@ module _ (lengths map : List ℕ) where
       record_count z =
           let inside : place_refusal lengths (field_of map k) ≡ 0 = ap (place_refusal lengths) (sym g) ∙ sym p ∙ z in
           simp (g, eq-eqb _ _ i, eq-eqb _ _ s, inside)
+
+    -- as a chain of checks asks it, where its id is right and its last bytes are zero
+    module _ (i : record_byte map k 0 ≡ id) (s : stray_of map k ≡ 0) (f : EfuseField) (g : f ≡ field_of map k) where
+      pub place_refused : {why : Refusal} → Err why ≡ outcome_of (place_refusal lengths f) → Err why ≡ outcome_of (map_record_refusal lengths map id k)
+      place_refused e = e ∙ ap outcome_of (record_place i s g refl (was_refused _ tt e).0)
+
+      pub count_decides : {v : Unit} {answer : Result Unit Refusal} → Ok v ≡ outcome_of (place_refusal lengths f) → answer ≡ outcome_of (count_refusal id f.bit_count)
+          → answer ≡ outcome_of (map_record_refusal lengths map id k)
+      count_decides e h = h ∙ ap outcome_of (sym (record_count i s g refl (went_well _ tt e).0))
 
     -- a record that isn't refused has a field that isn't, and a bit count that its id may have
     pub record_good : map_record_refusal lengths map id k ≡ 0

@@ -13,6 +13,9 @@ use Rattle.terms.specs.Refusal.{refuse, or_else, first_of, plain, told, outcome_
 use Rattle.terms.specs.Says.{Says}
 use Rattle.terms.proofs.Refusals.{told_good, told_refused, or_else_some, went_well, was_refused, number_is, Passed, first_stop, first_none}
 use Rattle.terms.proofs.Says.{told_says}
+use Rattle.terms.proofs.Exactly.{case}
+use Rattle.dumps.specs.Lengths.{lengths_refusal}
+use Rattle.dumps.proofs.Lists.{lengths_exactly}
 use Rattle.dumps.specs.When.{LengthsWhen, not_eleven, above_eight, good_lengths}
 use Rattle.efuse.specs.When.{bad_block, bad_bits, good_place}
 use Rattle.maps.specs.Map.{stray_of, map_record_refusals}
@@ -102,6 +105,11 @@ module _ (lengths map : List ℕ) where
       pub told_second : {v : Unit} {answer : Result Unit Refusal} → Ok v ≡ outcome_of first → answer ≡ outcome_told (told_of lengths chip map after)
           → answer ≡ outcome_told (told_of lengths chip map (or_else first after))
       told_second e h = rw (went_well _ tt e).0 h
+
+    -- the list's refusal comes first
+    pub lengths_first : (after : ℕ) {why : Refusal} → Err why ≡ outcome_of (lengths_refusal lengths)
+        → Err why ≡ outcome_told (told_of lengths chip map (or_else (lengths_refusal lengths) after))
+    lengths_first after e = told_first (lengths_refusal lengths) after (lengths_plain (case (lengths_exactly lengths))) e
 
     -- what a caller knows where the check of a map went well
     pub told_went_well : {n : ℕ} {v : Unit} → Ok v ≡ outcome_told (told_of lengths chip map n) → n ≡ 0

