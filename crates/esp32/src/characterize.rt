@@ -58,6 +58,7 @@ fn tp_atten(k: u8) -> Atten
 }
 
 // b by two points; 9 where it is negative. The offset comes first: esp-hal takes t off before it, and goes below zero on the way.
+#[tactic(auto, using(crate::proofs::Coefficients::b_negative, crate::proofs::Coefficients::b_not_negative, crate::proofs::Coefficients::b_refused, crate::proofs::Coefficients::b_good, crate::proofs::Coefficients::two_point_b_is))]
 fn two_point_b(t: u32, offset: u32) -> Result<u32, Refusal>
     requires { offset ≤ 66 }
     ensures { result ≡ answered (b_refusal t offset) (two_point_b t offset) }
@@ -98,6 +99,7 @@ impl Setting {
     }
 
     // a and b by two points; 9 where they make b negative.
+    #[tactic(auto, using(crate::proofs::Coefficients::tp_most))]
     fn characterize_using_two_point(self, points: Points) -> Result<Coefficients, Refusal>
         ensures { result ≡ answered (two_point_refusal self.unit self.atten points.low points.high) (two_point_line self.unit self.atten points.low points.high) }
     {
@@ -122,6 +124,7 @@ impl Setting {
     }
 
     // The coefficients from a basis, Vref in millivolts; 9 where the basis is two points that make b negative.
+    #[tactic(auto, using(vref::proofs::Lines::line_is), unfolding(crate::specs::Characterize::coefficients_of, crate::specs::Characterize::basis_refusal))]
     pub(crate) fn characterize(self, vref: u32, basis: Basis) -> Result<Coefficients, Refusal>
         requires { (vref ≤ 1205) × InBits basis }
         ensures { result ≡ answered (basis_refusal self.unit self.atten basis) (coefficients_of self.unit self.atten vref basis) }

@@ -41,6 +41,7 @@ fn sign_bit(width: u32) -> u32
 }
 
 // Vref in millivolts, from its five bits.
+#[tactic(auto, using(crate::proofs::Codes::vref_plus, crate::proofs::Codes::vref_minus))]
 pub(crate) fn efuse_vref(bits: u32) -> u32
     requires { bits < 32 }
     ensures { result ≡ vref_of bits }
@@ -54,6 +55,7 @@ pub(crate) fn efuse_vref(bits: u32) -> u32
 }
 
 // The count that a two-point code of any width stands for: its magnitude is what a wrapping negation leaves below the sign bit.
+#[tactic(auto, using(crate::proofs::Codes::point_plus, crate::proofs::Codes::point_minus))]
 fn efuse_tp(base: u32, width: u32, bits: u32) -> u32
     requires { Coded base width bits }
     ensures { result ≡ point_of base width bits }
@@ -67,6 +69,7 @@ fn efuse_tp(base: u32, width: u32, bits: u32) -> u32
 }
 
 // The count at 150 mV, from its seven bits.
+#[tactic(auto, unfolding(crate::specs::Code::low_of))]
 pub(crate) fn efuse_tp_low(unit: u8, bits: u32) -> u32
     requires { bits < 128 }
     ensures { result ≡ low_of unit bits }
@@ -79,6 +82,7 @@ pub(crate) fn efuse_tp_low(unit: u8, bits: u32) -> u32
 }
 
 // The count at 850 mV, from its nine bits.
+#[tactic(auto, unfolding(crate::specs::Code::high_of))]
 pub(crate) fn efuse_tp_high(unit: u8, bits: u32) -> u32
     requires { bits < 512 }
     ensures { result ≡ high_of unit bits }

@@ -37,7 +37,7 @@ pub(crate) struct Found {
 }
 
 // Where a unit's a and b come from. In esp-hal: `check_efuse_tp`.
-#[tactic(auto, using(crate::proofs::Bases::no_high2))]
+#[tactic(auto, using(crate::proofs::Bases::no_reserve, crate::proofs::Bases::no_low1, crate::proofs::Bases::no_low2, crate::proofs::Bases::no_high1, crate::proofs::Bases::no_high2, crate::proofs::Bases::all_codes))]
 fn basis(dump: &[u32], lengths: &[u8], map: &[u8], unit: u8) -> Basis
     requires { fields_refusal lengths.now Esp32 dump.now map.now ≡ 0 }
     ensures { result ≡ basis_of dump.now map.now unit }
@@ -68,6 +68,7 @@ fn basis(dump: &[u32], lengths: &[u8], map: &[u8], unit: u8) -> Basis
 }
 
 // What the record of a unit at an attenuation is made from, where nothing handed in is refused; else 9.
+#[tactic(auto, using(inputs::proofs::Inputs::decoding_good))]
 fn find(dump: &[u32], lengths: &[u8], map: &[u8], unit: u8, atten: u8) -> Result<Found, Refusal>
     requires { decoding_refusal lengths.now Esp32 dump.now map.now unit atten ≡ 0 }
     ensures { result ≡ answered (basis_refusal unit atten (basis_of dump.now map.now unit)) (found_of dump.now map.now unit atten) }
@@ -109,6 +110,7 @@ fn record_from(found: Found, unit: u8, atten: u8) -> LineRecord
 
 // The line record of a unit at an attenuation, from a dump and its map. It passes `check_record`. Any dump, lengths, map, unit and
 // attenuation are answered; refusals 1, 20, 7, then the map's, then 9.
+#[tactic(auto, using(maps::proofs::Told::told_went_well, inputs::proofs::Inputs::decoding_good, crate::proofs::Bases::vref_fits, crate::proofs::Decoding::input_refused, crate::proofs::Decoding::basis_refused, crate::proofs::Decoding::found_good, crate::proofs::Decoding::decode_record), unfolding(crate::specs::Decode::found_of, crate::specs::Decode::decoded_record))]
 pub fn decode(
     dump: &[u32],
     lengths: &[u8],

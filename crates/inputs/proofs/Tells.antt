@@ -5,14 +5,20 @@ use mathlib.Core.Bool.{true, false, true≢false}
 use mathlib.Core.List.{List}
 use Prim.Native.Nat.{ℕ}
 use Rattle.terms.specs.declared.chip.MapChip.{MapChip}
+use Rattle.std.specs.Prelude.{Err}
+use Rattle.terms.specs.declared.refusal.Refusal.{Refusal}
 use Rattle.terms.specs.Exactly.{Exactly}
+use Rattle.terms.specs.Refusal.{or_else, outcome_of, outcome_told, unit_refusal}
 use Rattle.terms.specs.When.{UnitWhen, bad_unit, good_unit}
 use Rattle.dumps.specs.When.{DumpWhen, bad_dump, dump_lengths}
 use Rattle.maps.specs.Tells.{ToldWhen}
 use Rattle.maps.specs.Told.{of_record, told_of}
 use Rattle.maps.specs.When.{MapWhen}
 use Rattle.maps.proofs.Tells.{told_exactly}
-use Rattle.maps.proofs.Told.{lengths_plain}
+use Rattle.terms.proofs.Exactly.{case, unit_exactly}
+use Rattle.dumps.specs.Dump.{dump_refusal}
+use Rattle.dumps.proofs.Exactly.{dump_exactly}
+use Rattle.maps.proofs.Told.{lengths_plain, told_first}
 use Rattle.inputs.specs.Input.{fields_refusal, decoding_refusal}
 use Rattle.inputs.specs.When.{FieldsWhen, fields_dump, fields_map, DecodingWhen, decode_dump, decode_unit, decode_map}
 use Rattle.inputs.proofs.Exactly.{fields_exactly, decoding_exactly}
@@ -24,6 +30,16 @@ dump_plain (dump_lengths d l) = lengths_plain l
 pub unit_plain : {unit atten n : ℕ} → UnitWhen unit atten n → of_record n ≡ false
 unit_plain (bad_unit h) = refl
 unit_plain (good_unit u a) = refl
+
+-- what the dump and the unit refuse comes before whatever is wrong with the map
+module _ (lengths : List ℕ) (chip : MapChip) (map : List ℕ) where
+  pub dump_first : (dump : List ℕ) (after : ℕ) {why : Refusal} → Err why ≡ outcome_of (dump_refusal lengths dump)
+      → Err why ≡ outcome_told (told_of lengths chip map (or_else (dump_refusal lengths dump) after))
+  dump_first dump after e = told_first lengths map chip (dump_refusal lengths dump) after (dump_plain (case (dump_exactly lengths dump))) e
+
+  pub unit_first : (unit atten after : ℕ) {why : Refusal} → Err why ≡ outcome_of (unit_refusal unit atten)
+      → Err why ≡ outcome_told (told_of lengths chip map (or_else (unit_refusal unit atten) after))
+  unit_first unit atten after e = told_first lengths map chip (unit_refusal unit atten) after (unit_plain (case (unit_exactly unit atten))) e
 
 module _ (lengths : List ℕ) (chip : MapChip) (dump map : List ℕ) where
   fields_of_map : (n : ℕ) → FieldsWhen lengths chip dump map n → of_record n ≡ true → MapWhen lengths chip map n

@@ -10,6 +10,7 @@ use terms::chip::MapChip;
 use terms::refusal::{Refusal, check_unit};
 
 // The check of a dump, its list of block lengths and a chip's map: 1, 20, then the map's. Good where each of the map's fields may be read.
+#[tactic(auto, using(crate::proofs::Tells::dump_first, maps::proofs::Told::told_second), unfolding(crate::specs::Input::fields_refusal))]
 pub fn check_fields(chip: MapChip, dump: &[u32], lengths: &[u8], map: &[u8]) -> Result<(), Refusal>
     ensures { result ≡ outcome_told (told_of lengths.now chip map.now (fields_refusal lengths.now chip dump.now map.now)) }
 {
@@ -18,6 +19,7 @@ pub fn check_fields(chip: MapChip, dump: &[u32], lengths: &[u8], map: &[u8]) -> 
 }
 
 // The same for a unit and an attenuation: 1, 20, 7, then the map's.
+#[tactic(auto, using(crate::proofs::Tells::dump_first, crate::proofs::Tells::unit_first, maps::proofs::Told::told_second), unfolding(crate::specs::Input::decoding_refusal))]
 pub fn check_decoding(
     chip: MapChip,
     dump: &[u32],

@@ -2,8 +2,7 @@
 use Rattle.std.proofs.Common.{◌≡◌, lit≤, ap}
 use Rattle.terms.specs.declared.chip.MapChip.TheVariants.{Esp32}
 use Rattle.std.specs.Prelude.{Ok}
-use Rattle.std.proofs.lemmas.Result.{err_from_is_err_and}
-use Rattle.terms.proofs.Refusals.{went_well, was_refused, answered_good, answered_refused}
+use Rattle.terms.proofs.Refusals.{went_well, answered_good}
 use Rattle.inputs.specs.Input.{fields_refusal}
 use Rattle.inputs.proofs.Inputs.{decoding_good}
 use Rattle.maps.specs.Value.{value_by_id}
@@ -20,26 +19,14 @@ good c = (decoding_good _ _ _ _ _ _ c.requires).0
 vref : (c : After-record_value-vref) → c.record_value-vref.result ≡ value_by_id Esp32 c.args.dump.now c.args.map.now 1
 vref c = read _ _ _ (good c) 0 (lit≤ tt) c.record_value-vref.ensures
 
-pub basis-basis-requires : goal.basis-basis-requires
-basis-basis-requires c = (decoding_good _ _ _ _ _ _ c.requires).0
-
 pub efuse_vref-requires : goal.efuse_vref-requires
 efuse_vref-requires c = rw (vref (goal.at.efuse_vref-requires c).After-record_value-vref) (vref_fits _ _ _ (good (goal.at.efuse_vref-requires c).After-record_value-vref))
-
-pub invariant_of-characterize : goal.invariant_of-characterize
-invariant_of-characterize c = record { inside = (decoding_good _ _ _ _ _ _ c.requires).1 }
 
 pub characterize-requires : goal.characterize-requires
 characterize-requires c =
     let p = decoding_good _ _ _ _ _ _ c.requires in
     rw (c.efuse_vref.ensures, vref (goal.at.characterize-requires c).After-record_value-vref, c.basis-basis.ensures)
     ((vref_range (vref_fits _ _ _ p.0)).1, basis_in_bits _ _ _ p.0 _)
-
-pub returns-in_err-line : goal.returns-in_err-line
-returns-in_err-line c =
-    let p = err_from_is_err_and c.from_residual.result c.from_residual.ensures.1 in
-    let w = was_refused _ _ c.in_err-line.ensures in
-    rw (p.1, p.2) (answered_refused _ _ w.1 (rw c.basis-basis.ensures) w.0)
 
 pub returns : goal.returns
 unfolding found_of
