@@ -1,8 +1,8 @@
 -- Signed numbers as the machine has them, in their bits: what an operation on two of them gives back, what a code in sign and
 -- magnitude is, and a cast to an unsigned width. Assumes nothing.
 use mathlib.Core.Path.{◌≡◌, sym, ◌∙◌}
-use Prim.Native.Nat.{ℕ, ◌*◌, ◌-◌, ◌%◌, ◌^◌, ◌≤◌, ◌<◌}
-use native.Mathlib.Nat.{one-mul, lt_of_lt_of_le}
+use Prim.Native.Nat.{ℕ, ◌*◌, ◌-◌, ◌%◌, ◌^◌, ◌≤◌, ◌<◌, min}
+use native.Mathlib.Nat.{one-mul}
 use native.Mathlib.Omega.{arith}
 use lib.Dec.{T}
 use lib.IntN.{ℤ, pos, nat_abs, neg_ℤ, ◌-ℤ◌, +ℤ_idl}
@@ -12,6 +12,7 @@ use mir.Syntax.{Width, w16, w32}
 use mir.Val.{SFits, Fits, bits, to_z, of_z}
 use mir.ValLaws.{to_z-of_z, to_z_pos}
 use Rattle.terms.specs.Sign.{sign_magnitude}
+use Rattle.terms.proofs.Order.{either}
 use Rattle.terms.proofs.Sign.{sign_plus, sign_minus}
 use Rattle.terms.proofs.Whole.{up_neg, dn_neg, fits_by}
 
@@ -53,25 +54,21 @@ module _ (m : ℕ) (less : m < 2 ^ 31) where
   pub neg_back : to_z w32 (of_z w32 (pos 0 -ℤ to_z w32 m)) ≡ neg_ℤ (pos m)
   neg_back = to_z-of_z w32 _ neg_fits ∙ rw (to_z_pos w32 m less) (+ℤ_idl (neg_ℤ (pos m)))
 
--- a code of at most 31 bits in sign and magnitude, by the place of its sign
-module _ (width code : ℕ) (few : width ≤ 31) (fits : code < 2 ^ width) {sign : ℕ} (e : sign ≡ 2 ^ (width - 1)) where
-  small : code < 2 ^ 31
-  small = lt_of_lt_of_le fits (pow_mono few)
-
-  less : code - sign < 2 ^ 31
-  less = omega (arith, small)
-
-  pub plus_fits : SFits w32 (pos code)
-  plus_fits = record { sfits = small }
-
+-- a code of 16 bits in sign and magnitude, by the place of its sign, which is no higher than what no code has
+module _ (width code : ℕ) (fits : code < 2 ^ 16) {place : ℕ} (at : place ≡ min (width - 1) 16) {sign : ℕ} (e : sign ≡ 2 ^ place) where
   pub plus_back : code < sign → to_z w32 code ≡ sign_magnitude width code
-  plus_back h = to_z_pos w32 code small ∙ sym (sign_plus width code (rw e at h))
-
-  pub magnitude_fits : SFits w32 (pos (code - sign))
-  magnitude_fits = record { sfits = less }
-
-  pub minus_fits : SFits w32 (pos 0 -ℤ to_z w32 (code - sign))
-  minus_fits = neg_fits (code - sign) less
+  plus_back h =
+      let below : 2 ^ place ≤ 2 ^ (width - 1) = pow_mono (omega arith) in
+      to_z_pos w32 code (omega arith) ∙ sym (sign_plus width code (omega arith))
 
   pub minus_back : sign ≤ code → to_z w32 (of_z w32 (pos 0 -ℤ to_z w32 (code - sign))) ≡ sign_magnitude width code
-  minus_back h = neg_back (code - sign) less ∙ rw e (sym (sign_minus width code (rw e at h)))
+  minus_back h =
+      neg_back (code - sign) (omega arith)
+      ∙ either 16 (width - 1)
+      (λ past.
+      let last : place ≡ 16 = omega arith in
+      let high : sign ≡ 2 ^ 16 = rw last at e in absurd (omega arith))
+      (λ near.
+      let own : place ≡ width - 1 = omega arith in
+      let top : sign ≡ 2 ^ (width - 1) = rw own at e in
+      rw top (sym (sign_minus width code (rw top at h))))

@@ -9,6 +9,7 @@ use Rattle.terms.proofs.refusal.outcome_of.Reads as outcome_of
 use Rattle.terms.proofs.refusal.plain.Reads as plain
 use Rattle.terms.proofs.refusal.check_raw.Reads as check_raw
 use Rattle.terms.proofs.refusal.check_unit.Reads as check_unit
+use Rattle.terms.proofs.signed.sign_magnitude.Reads as sign_magnitude
 
 pub u16_of_one : OneAnswer (λ κs z e. z) u16_of.Post
 u16_of_one κs a z z' e e' p q = p ∙ sym q
@@ -33,3 +34,6 @@ check_raw_one κs a z z' e e' p q = p ∙ sym q
 
 pub numbered_one : OneAnswer (λ κs z e. z) numbered.Post
 numbered_one κs a z z' e e' p q = p ∙ sym q
+
+pub sign_magnitude_one : OneAnswer (λ κs z e. z) sign_magnitude.Post
+sign_magnitude_one κs a z z' e e' p q = p ∙ sym q
