@@ -9,12 +9,10 @@ use lib.IntN.{ℤ}
 use lib.ListN.{length}
 use lib.Dec.{ltb, eqb}
 use borrow.Author.Tests.{eq-eqb, ne_eqb, eqb-true, not-false, lt-ltb, le-ltb, ltb-false}
-use Rattle.terms.specs.declared.reading.Reading.{Reading}
-use Rattle.terms.specs.declared.reading.Reading.TheVariants.{Value, Refused}
+use Rattle.std.specs.Prelude.{Ok, Err}
 use Rattle.terms.specs.declared.refusal.Refusal.{Refusal}
-use Rattle.terms.specs.Refusal.{plain, unit_refusal}
-use Rattle.terms.proofs.Order.{zero_or}
-use Rattle.terms.proofs.Refusals.{refuse_none, or_else_none, or_else_given, by_number_good, by_number_refused, unit_inside}
+use Rattle.terms.specs.Refusal.{plain, outcome_of, unit_refusal}
+use Rattle.terms.proofs.Refusals.{refuse_none, or_else_none, or_else_given, went_well, was_refused, handed_on, first_refused, unit_inside}
 use Rattle.dumps.specs.Dump.{dump_refusal}
 use Rattle.dumps.specs.Lengths.{words_of}
 use Rattle.dumps.proofs.Dumps.{dump_whole}
@@ -76,9 +74,10 @@ module _ (lengths dump : List ℕ) (version unit atten : ℕ) (param : RtcCalibP
       (record { whole = eqb-true _ _ (not-false _ p.0); room = ltb-false _ _ q.0 }, u.0, u.1, s.1)
 
   -- the dump's and the list's numbers come first; past them both calls give the same
-  pub reading_dump : {n : ℕ} → n ≡ dump_refusal lengths dump → (n ≡ 0 → ⊥) → n ≡ reading_refusal lengths dump version unit atten param
-  unfolding reading_refusal
-  reading_dump e h = sym (or_else_given _ _ (sym e) h)
+  pub reading_dump : {why : Refusal} → Err why ≡ outcome_of (dump_refusal lengths dump)
+      → Err why ≡ calib_reading_of lengths dump version unit atten param
+  unfolding calib_reading_of reading_refusal
+  reading_dump e = handed_on _ _ (first_refused _ _ e)
 
   pub reading_table : dump_refusal lengths dump ≡ 0
       → table_reading_of lengths dump version unit atten param ≡ calib_reading_of lengths dump version unit atten param
@@ -86,30 +85,16 @@ module _ (lengths dump : List ℕ) (version unit atten : ℕ) (param : RtcCalibP
   reading_table e = rw (e, table_chosen (dump_ready lengths dump e))
 
   -- for a caller that has checked its input: the answer is the reading, or 5
-  module _ (ready : Ready lengths dump) (u : unit_refusal unit atten ≡ 0)
-      {z : Reading} (q : z ≡ table_reading_of lengths dump version unit atten param) where
+  module _ (ready : Ready lengths dump) (u : unit_refusal unit atten ≡ 0) where
     table_chain : table ≡ chain_refusal lengths tag
     table_chain = table_chosen ready ∙ chosen_chain lengths version unit atten param u
 
-    pub table_value : {v : ℤ} → z ≡ Value v → (chain_refusal lengths tag ≡ 0) × (v ≡ reading_of dump false tag)
+    pub table_value : {v : ℤ} → Ok v ≡ table_reading_of lengths dump version unit atten param
+        → (chain_refusal lengths tag ≡ 0) × (v ≡ reading_of dump false tag)
     unfolding table_reading_of
-    table_value {v} h =
-        zero_or table
-        (λ e.
-        (let is : z ≡ Value (reading_of dump false tag) = q ∙ by_number_good _ _ _ e in
-        (sym table_chain ∙ e, cc is)))
-        (λ some.
-        (let is : z ≡ Refused (plain table) = q ∙ by_number_refused _ _ _ some in
-        let n : ◌≡◌ {A = ℕ} 0 1 = cc is in absurd (omega arith)))
+    table_value e = let p = went_well (plain table) _ e in (sym table_chain ∙ p.0, p.1)
 
-    pub table_refused : {r : Refusal} → z ≡ Refused r → (chain_refusal lengths tag ≡ 0 → ⊥) × (r ≡ plain (chain_refusal lengths tag))
+    pub table_refused : {r : Refusal} → Err r ≡ table_reading_of lengths dump version unit atten param
+        → (chain_refusal lengths tag ≡ 0 → ⊥) × (r ≡ plain (chain_refusal lengths tag))
     unfolding table_reading_of
-    table_refused {r} h =
-        zero_or table
-        (λ e.
-        (let is : z ≡ Value (reading_of dump false tag) = q ∙ by_number_good _ _ _ e in
-        let n : ◌≡◌ {A = ℕ} 0 1 = cc is in absurd (omega arith)))
-        (λ some.
-        (let is : z ≡ Refused (plain table) = q ∙ by_number_refused _ _ _ some in
-        let why : r ≡ plain table = cc is in
-        (λ e. some (table_chain ∙ e), why ∙ ap plain table_chain)))
+    table_refused e = let p = was_refused (plain table) _ e in (λ z. p.0 (table_chain ∙ z), p.1 ∙ ap plain table_chain)

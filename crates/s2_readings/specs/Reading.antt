@@ -1,7 +1,7 @@
 -- Document 01, "S2, C6 and curves": the readings of the S2's table. In esp-hal: `rtc_calib_parsed` and `rtc_calib_reading` of
 -- efuse/esp32s2/mod.rs, from ESP-IDF's components/efuse/esp32s2/esp_efuse_rtc_table.c, line 145. Their refusals: 1, 7,
 -- by document 02, #109, with 20 after 1, and 5 after 7.
-use Rattle.std.specs.Prelude.{Bool, true, false, not, cond, List, [], ℕ, zero, suc, ℤ, pos, ◌+ℤ◌, ◌*ℤ◌, length, ltb, eqb}
+use Rattle.std.specs.Prelude.{Result, Bool, true, false, not, cond, List, [], ℕ, zero, suc, ℤ, pos, ◌+ℤ◌, ◌*ℤ◌, length, ltb, eqb}
 use Rattle.terms.specs.Refusal.{refuse, or_else, unit_refusal, answered}
 use Rattle.terms.specs.Sign.{sign_magnitude}
 use Rattle.dumps.specs.Dump.{dump_refusal}
@@ -9,8 +9,7 @@ use Rattle.dumps.specs.Lengths.{words_of}
 use Rattle.efuse.specs.Field.{bits_of}
 use Rattle.s2_readings.specs.declared.table.RtcCalibEntry.{RtcCalibEntry}
 use Rattle.s2_readings.specs.declared.tag.RtcCalibParam.{RtcCalibParam}
-use Rattle.terms.specs.declared.reading.Reading.{Reading}
-use Rattle.terms.specs.declared.reading.Reading.TheVariants.{Value, Refused}
+use Rattle.terms.specs.declared.refusal.Refusal.{Refusal}
 use Rattle.s2_readings.specs.Chain.{chain_refusal}
 use Rattle.s2_readings.specs.Table.{begin_bit, bit_length, multiplier, base, depends, entry_at}
 use Rattle.s2_readings.specs.Tag.{tag_of}
@@ -46,11 +45,10 @@ reading_refusal lengths dump version unit atten param =
     or_else (dump_refusal lengths dump)
     (chosen_refusal lengths version unit atten param)
 
-unfoldable pub calib_reading_of : List ℕ → List ℕ → ℕ → ℕ → ℕ → RtcCalibParam → Reading
+unfoldable pub calib_reading_of : List ℕ → List ℕ → ℕ → ℕ → ℕ → RtcCalibParam → Result ℤ Refusal
 calib_reading_of lengths dump version unit atten param =
     answered (reading_refusal lengths dump version unit atten param)
-    (Value (reading_of dump false (tag_of version unit atten param)))
-    Refused
+    (reading_of dump false (tag_of version unit atten param))
 
 -- the same for a caller that has checked the list: only the length of block 2 is looked at
 -- 1: the dump hasn't 88 words
@@ -62,13 +60,12 @@ table_refusal lengths dump version unit atten param =
     (refuse (ltb 8 (words_of lengths 2)) 20
     (chosen_refusal lengths version unit atten param))
 
-unfoldable pub table_reading_of : List ℕ → List ℕ → ℕ → ℕ → ℕ → RtcCalibParam → Reading
+unfoldable pub table_reading_of : List ℕ → List ℕ → ℕ → ℕ → ℕ → RtcCalibParam → Result ℤ Refusal
 table_reading_of lengths dump version unit atten param =
     answered (table_refusal lengths dump version unit atten param)
-    (Value (reading_of dump false (tag_of version unit atten param)))
-    Refused
+    (reading_of dump false (tag_of version unit atten param))
 
 -- the same with the eFuse skipped, so that there is no dump
-unfoldable pub skipped_reading_of : ℕ → ℕ → ℕ → RtcCalibParam → Reading
+unfoldable pub skipped_reading_of : ℕ → ℕ → ℕ → RtcCalibParam → Result ℤ Refusal
 skipped_reading_of version unit atten param =
-    answered (unit_refusal unit atten) (Value (reading_of [] true (tag_of version unit atten param))) Refused
+    answered (unit_refusal unit atten) (reading_of [] true (tag_of version unit atten param))

@@ -6,22 +6,22 @@ use Rattle.s2_readings.specs.declared.table.RtcCalibEntry.{RtcCalibEntry}
 -- a tag's entry: the first bit and the length of its field in block 2, its multiplier, its base, and the tag that it depends on
 abbrev pub entry : ℕ → ℕ → ℕ → ℤ → ℕ → RtcCalibEntry
 entry begin length multiplier base depends =
-    record { 0 = begin; 1 = length; 2 = pos multiplier; 3 = base; 4 = depends }
+    record { bit_start = begin; len = length; multiplier = pos multiplier; base = base; depends = depends }
 
 abbrev pub begin_bit : RtcCalibEntry → ℕ
-begin_bit e = e.0
+begin_bit e = e.bit_start
 
 abbrev pub bit_length : RtcCalibEntry → ℕ
-bit_length e = e.1
+bit_length e = e.len
 
 abbrev pub multiplier : RtcCalibEntry → ℤ
-multiplier e = e.2
+multiplier e = e.multiplier
 
 abbrev pub base : RtcCalibEntry → ℤ
-base e = e.3
+base e = e.base
 
 abbrev pub depends : RtcCalibEntry → ℕ
-depends e = e.4
+depends e = e.depends
 
 -- tag 0, then "tags 1 to 32": those from 1, 9, 17 and 25 on are "v1 low, v1 high, v2 high, v2 init"
 unfoldable pub calib_map : List RtcCalibEntry

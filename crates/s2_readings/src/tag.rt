@@ -3,7 +3,7 @@ ghost use Rattle.std.specs.Prelude.{◌≡◌, ◌≤◌};
 ghost use Rattle.s2_readings.specs.Tag.{by_version, first_tag, tag_of};
 
 // What is read of the table.
-#[derive(Clone, Copy)]
+#[derive(Clone, Copy, Debug, PartialEq, Eq)]
 pub enum RtcCalibParam {
     // Low-voltage reading, of version 1.
     Vlow,
@@ -13,16 +13,15 @@ pub enum RtcCalibParam {
     Vinit,
 }
 
+#[tactic(auto, unfolding(crate::specs::Tag::by_version))]
 fn by_version(version: u8, one: u8, two: u8) -> u8
     ensures { result ≡ by_version version one two }
 {
-    if version == 1 {
-        return one;
+    match version {
+        1 => one,
+        2 => two,
+        _ => 0,
     }
-    if version == 2 {
-        return two;
-    }
-    0
 }
 
 // The first tag of a version and a parameter, or 0 where they don't pair.
@@ -37,6 +36,8 @@ fn first_tag(version: u8, param: RtcCalibParam) -> u8
 }
 
 // The tag of a version, unit, attenuation and parameter, or 0 where version and parameter don't pair.
+// Kept: 0 and not `None`, since tag 0 is an entry of the table, as the definition `tag_of` has it.
+#[tactic(auto, using(crate::proofs::Tags::first_most), unfolding(crate::specs::Tag::tag_of))]
 pub(crate) fn rtc_calib_tag(version: u8, unit: u8, atten: u8, param: RtcCalibParam) -> u8
     requires { (unit ≤ 1) × (atten ≤ 3) }
     ensures { result ≡ tag_of version unit atten param }

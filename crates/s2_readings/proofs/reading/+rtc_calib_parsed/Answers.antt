@@ -21,13 +21,13 @@ use Rattle.s2_readings.proofs.Fits.{base_fits, sum_fits, step_fits}
 use Rattle.s2_readings.proofs.reading.+rtc_calib_parsed.Goals as goal
 
 -- the base of the tag's entry, as the machine widens it
-plus : {tag : ℕ} {e : RtcCalibEntry} → Rule tag → e ≡ entry_at tag → to_z w32 (of_z w32 (to_z w16 (of_z w16 e.3))) ≡ base (entry_at tag)
+plus : {tag : ℕ} {e : RtcCalibEntry} → Rule tag → e ≡ entry_at tag → to_z w32 (of_z w32 (to_z w16 (of_z w16 e.base))) ≡ base (entry_at tag)
 plus rule is = wider_back _ (rw is (base_fits _ rule)) ∙ ap base is
 
 -- the tag's own two terms, as the machine adds them
 own : {tag : ℕ} {e : RtcCalibEntry} (dump : List ℕ) (skip : Bool) (raw : ℤ) → Rule tag → e ≡ entry_at tag → SFits w32 raw
     → raw ≡ term_of dump skip (entry_at tag)
-    → to_z w32 (of_z w32 (to_z w32 (of_z w32 raw) +ℤ to_z w32 (of_z w32 (to_z w16 (of_z w16 e.3)))))
+    → to_z w32 (of_z w32 (to_z w32 (of_z w32 raw) +ℤ to_z w32 (of_z w32 (to_z w16 (of_z w16 e.base)))))
     ≡ term_of dump skip (entry_at tag) +ℤ base (entry_at tag)
 own dump skip raw rule is fits term =
     op_back w32 ◌+ℤ◌ (to_z-of_z w32 _ fits ∙ term) (plus rule is) (sum_fits _ rule _ _)

@@ -1,16 +1,14 @@
 -- `s2_readings::rtc_calib_reading` meets its contract: past the dump and the list it is the table's reading.
-use mathlib.Core.Path.{sym, ◌∙◌}
-use Rattle.terms.proofs.Refusals.{answered_refused}
-use Rattle.terms.specs.declared.reading.Reading.TheVariants.{Refused}
-use Rattle.s2_readings.specs.Reading.{calib_reading_of}
+use mathlib.Core.Path.{◌∙◌}
+use Rattle.std.proofs.lemmas.Result.{err_from_is_err_and}
+use Rattle.terms.proofs.Refusals.{went_well}
 use Rattle.s2_readings.proofs.Readings.{reading_dump, reading_table}
 use Rattle.s2_readings.proofs.reading.rtc_calib_reading.Goals as goal
 
-pub returns-then-number-ne-NONE : goal.returns-then-number-ne-NONE
-unfolding calib_reading_of
-returns-then-number-ne-NONE c =
-    answered_refused _ _ Refused c.plain.ensures (reading_dump _ _ _ _ _ _ c.dump_refusal-number.ensures c.if-number-ne-NONE.true) c.if-number-ne-NONE.true
+pub returns-in_err-check_dump : goal.returns-in_err-check_dump
+returns-in_err-check_dump c =
+    let p = err_from_is_err_and c.from_residual.result c.from_residual.ensures.1 in
+    rw (p.1, p.2) (reading_dump _ _ _ _ _ _ c.in_err-check_dump.ensures)
 
 pub returns : goal.returns
-returns c =
-    c.table_reading.ensures ∙ reading_table _ _ _ _ _ _ (sym c.dump_refusal-number.ensures ∙ c.if-number-ne-NONE.false)
+returns c = c.table_reading.ensures ∙ reading_table _ _ _ _ _ _ (went_well _ tt c.in_ok-check_dump.ensures).0

@@ -1,136 +1,15 @@
--- `s2_readings::entry_at` meets its contract: each arm is the table's entry, by computing.
-use Rattle.terms.proofs.Arms.{last_arm}
-use Rattle.s2_readings.specs.Table.{calib_map, entry_at}
+-- `s2_readings::entry_at` meets its contract: each arm is the table's entry, by computing, and what no arm has is past its end.
+use lib.IntN.{pos}
+use lib.ListN.{get_or-eq_default}
+use Prim.Native.Nat.{◌≤◌}
+use borrow.Author.Rules.{rules}
+use Rattle.terms.proofs.Arms.{never}
+use Rattle.terms.proofs.Order.{either}
+use Rattle.s2_readings.specs.Table.{entry, calib_map, entry_at}
 use Rattle.s2_readings.proofs.table.entry_at.Goals as goal
-
-pub returns-in-0 : goal.returns-in-0
-unfolding entry_at calib_map
-returns-in-0 c = rw c.in-0.is
-
-pub returns-in-1 : goal.returns-in-1
-unfolding entry_at calib_map
-returns-in-1 c = rw c.in-1.is
-
-pub returns-in-2 : goal.returns-in-2
-unfolding entry_at calib_map
-returns-in-2 c = rw c.in-2.is
-
-pub returns-in-3 : goal.returns-in-3
-unfolding entry_at calib_map
-returns-in-3 c = rw c.in-3.is
-
-pub returns-in-4 : goal.returns-in-4
-unfolding entry_at calib_map
-returns-in-4 c = rw c.in-4.is
-
-pub returns-in-5 : goal.returns-in-5
-unfolding entry_at calib_map
-returns-in-5 c = rw c.in-5.is
-
-pub returns-in-6 : goal.returns-in-6
-unfolding entry_at calib_map
-returns-in-6 c = rw c.in-6.is
-
-pub returns-in-7 : goal.returns-in-7
-unfolding entry_at calib_map
-returns-in-7 c = rw c.in-7.is
-
-pub returns-in-8 : goal.returns-in-8
-unfolding entry_at calib_map
-returns-in-8 c = rw c.in-8.is
-
-pub returns-in-9 : goal.returns-in-9
-unfolding entry_at calib_map
-returns-in-9 c = rw c.in-9.is
-
-pub returns-in-10 : goal.returns-in-10
-unfolding entry_at calib_map
-returns-in-10 c = rw c.in-10.is
-
-pub returns-in-11 : goal.returns-in-11
-unfolding entry_at calib_map
-returns-in-11 c = rw c.in-11.is
-
-pub returns-in-12 : goal.returns-in-12
-unfolding entry_at calib_map
-returns-in-12 c = rw c.in-12.is
-
-pub returns-in-13 : goal.returns-in-13
-unfolding entry_at calib_map
-returns-in-13 c = rw c.in-13.is
-
-pub returns-in-14 : goal.returns-in-14
-unfolding entry_at calib_map
-returns-in-14 c = rw c.in-14.is
-
-pub returns-in-15 : goal.returns-in-15
-unfolding entry_at calib_map
-returns-in-15 c = rw c.in-15.is
-
-pub returns-in-16 : goal.returns-in-16
-unfolding entry_at calib_map
-returns-in-16 c = rw c.in-16.is
-
-pub returns-in-17 : goal.returns-in-17
-unfolding entry_at calib_map
-returns-in-17 c = rw c.in-17.is
-
-pub returns-in-18 : goal.returns-in-18
-unfolding entry_at calib_map
-returns-in-18 c = rw c.in-18.is
-
-pub returns-in-19 : goal.returns-in-19
-unfolding entry_at calib_map
-returns-in-19 c = rw c.in-19.is
-
-pub returns-in-20 : goal.returns-in-20
-unfolding entry_at calib_map
-returns-in-20 c = rw c.in-20.is
-
-pub returns-in-21 : goal.returns-in-21
-unfolding entry_at calib_map
-returns-in-21 c = rw c.in-21.is
-
-pub returns-in-22 : goal.returns-in-22
-unfolding entry_at calib_map
-returns-in-22 c = rw c.in-22.is
-
-pub returns-in-23 : goal.returns-in-23
-unfolding entry_at calib_map
-returns-in-23 c = rw c.in-23.is
-
-pub returns-in-24 : goal.returns-in-24
-unfolding entry_at calib_map
-returns-in-24 c = rw c.in-24.is
-
-pub returns-in-25 : goal.returns-in-25
-unfolding entry_at calib_map
-returns-in-25 c = rw c.in-25.is
-
-pub returns-in-26 : goal.returns-in-26
-unfolding entry_at calib_map
-returns-in-26 c = rw c.in-26.is
-
-pub returns-in-27 : goal.returns-in-27
-unfolding entry_at calib_map
-returns-in-27 c = rw c.in-27.is
-
-pub returns-in-28 : goal.returns-in-28
-unfolding entry_at calib_map
-returns-in-28 c = rw c.in-28.is
-
-pub returns-in-29 : goal.returns-in-29
-unfolding entry_at calib_map
-returns-in-29 c = rw c.in-29.is
-
-pub returns-in-30 : goal.returns-in-30
-unfolding entry_at calib_map
-returns-in-30 c = rw c.in-30.is
-
-pub returns-in-31 : goal.returns-in-31
-unfolding entry_at calib_map
-returns-in-31 c = rw c.in-31.is
 
 pub returns-in_default : goal.returns-in_default
 unfolding entry_at calib_map
-returns-in_default c = rw (last_arm _ 32 c.in_default.in_default-own.rest c.requires)
+returns-in_default c =
+    let past : 33 ≤ c.args.tag = either 33 c.args.tag (λ p. p) (λ below. absurd (never _ 33 c.in_default.in_default-own.rest below)) in
+    rw (get_or-eq_default calib_map (entry 0 0 0 (pos 0) 0) past) (search rules)
