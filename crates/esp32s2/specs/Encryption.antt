@@ -1,14 +1,12 @@
 -- Document 01, "S2, C6 and curves": the S2's flash encryption. In esp-hal: `flash_encryption` of efuse/esp32s2/mod.rs. Its refusals:
 -- 1, those of the map, by document 02, #109, with 20 after 1.
-use Rattle.std.specs.Prelude.{Bool, false, List, ℕ, zero, suc, ◌+◌, ◌/◌, ◌%◌, eqb}
+use Rattle.std.specs.Prelude.{Result, Bool, List, ℕ, zero, suc, ◌+◌, ◌/◌, ◌%◌, eqb}
 use Rattle.terms.specs.declared.chip.MapChip.TheVariants.{S2}
 use Rattle.terms.specs.declared.refusal.Refusal.{Refusal}
-use Rattle.terms.specs.Refusal.{plain, told}
+use Rattle.terms.specs.Refusal.{told}
 use Rattle.inputs.specs.Input.{fields_refusal}
 use Rattle.maps.specs.Told.{told_of}
 use Rattle.maps.specs.Value.{value_by_id}
-use Rattle.esp32s2.specs.declared.encryption.FlashEncryption.{FlashEncryption}
-use Rattle.esp32s2.specs.declared.encryption.FlashEncryption.TheVariants.{Value, Refused}
 
 -- how many of a number's low n bits are ones
 unfoldable pub ones_of : ℕ → ℕ → ℕ
@@ -19,16 +17,7 @@ ones_of (suc n) number = number % 2 + ones_of n (number / 2)
 unfoldable pub odd_ones : ℕ → Bool
 odd_ones count = eqb (ones_of 8 count % 2) 1
 
--- the refusal and the value of an answer: plain 0 beside a value, zeros beside a refusal
-abbrev pub refusal_of : FlashEncryption → Refusal
-refusal_of (Value on) = plain 0
-refusal_of (Refused r) = r
-
-abbrev pub value_of : FlashEncryption → Bool
-value_of (Value on) = on
-value_of (Refused r) = false
-
 -- by the bits of SPI_BOOT_CRYPT_CNT, id 8
-unfoldable pub flash_encryption_of : List ℕ → List ℕ → List ℕ → FlashEncryption
+unfoldable pub flash_encryption_of : List ℕ → List ℕ → List ℕ → Result Bool Refusal
 flash_encryption_of lengths dump map =
-    told (told_of lengths S2 map (fields_refusal lengths S2 dump map)) (Value (odd_ones (value_by_id S2 dump map 8))) Refused
+    told (told_of lengths S2 map (fields_refusal lengths S2 dump map)) (odd_ones (value_by_id S2 dump map 8))
