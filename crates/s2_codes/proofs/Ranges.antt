@@ -5,7 +5,7 @@ use mathlib.Core.List.{List}
 use Prim.Native.Nat.{ℕ, ◌+◌, ◌*◌, ◌≤◌, ◌<◌}
 use native.Mathlib.Omega.{arith}
 use lib.IntN.{pos}
-use Rattle.terms.specs.Code.{value_of}
+use Rattle.terms.specs.Refusal.{value_of}
 use Rattle.terms.proofs.Check.{rule}
 use Rattle.s2_readings.specs.declared.tag.RtcCalibParam.{RtcCalibParam}
 use Rattle.s2_readings.specs.declared.tag.RtcCalibParam.TheVariants.{Vhigh, Vinit}
@@ -48,17 +48,17 @@ module _ (lengths dump map : List ℕ) (unit atten : ℕ) where
         (rw (tag_is 2 unit atten param pairs some) (eight-tags (unit * 4 + atten) (omega (arith, inside))))
 
     -- the code is the reading itself, and in its range
-    code_answer : let v = value_of (code_of lengths dump map unit atten param) in
+    code_answer : let v = value_of 0 (code_of lengths dump map unit atten param) in
         (pos v ≡ reading_of dump false (tag_of 2 unit atten param)) × ((low ≤ v) × (v ≤ high))
     unfolding code_of
     code_answer = rw good (sym code_between.whole, (code_between.least, code_between.most))
 
   pub init_code_range : (code_told lengths dump map unit atten Vinit).number ≡ 0
-      → let v = value_of (init_code_of lengths dump map unit atten) in
+      → let v = value_of 0 (init_code_of lengths dump map unit atten) in
       (pos v ≡ reading_of dump false (tag_of 2 unit atten Vinit)) × ((1265 ≤ v) × (v ≤ 2127))
   init_code_range = code_answer Vinit 25 init_pairs (omega arith) init_spread
 
   pub cal_code_range : (code_told lengths dump map unit atten Vhigh).number ≡ 0
-      → let v = value_of (cal_code_of lengths dump map unit atten) in
+      → let v = value_of 0 (cal_code_of lengths dump map unit atten) in
       (pos v ≡ reading_of dump false (tag_of 2 unit atten Vhigh)) × ((4321 ≤ v) × (v ≤ 7986))
   cal_code_range = code_answer Vhigh 17 high_pairs (omega arith) high_spread

@@ -4,10 +4,9 @@ use mathlib.Core.Bool.{false}
 use mathlib.Core.List.{List}
 use Prim.Native.Nat.{ℕ}
 use lib.IntN.{nat_abs}
-use Rattle.terms.specs.Code.{refusal_of, value_of}
 use Rattle.terms.specs.Refusal.{plain}
 use Rattle.terms.specs.Says.{Says}
-use Rattle.terms.proofs.Says.{code_paper, told_says}
+use Rattle.terms.proofs.Says.{told_says}
 use Rattle.s2_readings.specs.declared.tag.RtcCalibParam.{RtcCalibParam}
 use Rattle.s2_readings.specs.Reading.{reading_of}
 use Rattle.s2_readings.specs.Tag.{tag_of}
@@ -23,8 +22,8 @@ module _ (lengths dump map : List ℕ) (unit atten : ℕ) (param : RtcCalibParam
       code_table lengths dump map unit atten param p.0 ∙ ap plain p.1
 
   pub code_says :
-      Says refusal_of value_of 0
+      Says 0
       (code_of lengths dump map unit atten param) (code_told lengths dump map unit atten param)
       (nat_abs (reading_of dump false (tag_of 2 unit atten param)))
   unfolding code_of
-  code_says = told_says code_paper _ none _
+  code_says = told_says 0 _ none _

@@ -5,10 +5,9 @@ use mathlib.Core.Bool.{true, true≢false}
 use mathlib.Core.List.{List}
 use Prim.Native.Nat.{ℕ}
 use Rattle.terms.specs.declared.chip.MapChip.TheVariants.{S2}
-use Rattle.terms.specs.Code.{refusal_of}
 use Rattle.terms.specs.declared.refusal.Refusal.{Refusal}
 use Rattle.terms.specs.Exactly.{Exactly}
-use Rattle.terms.specs.Refusal.{plain}
+use Rattle.terms.specs.Refusal.{plain, refusal_of}
 use Rattle.terms.proofs.Exactly.{case}
 use Rattle.terms.proofs.Order.{zero_or}
 use Rattle.maps.specs.Tells.{ToldWhen}
