@@ -4,9 +4,6 @@ use Prim.Native.Nat.{ℕ, ◌+◌, min}
 use lib.IntN.{pos, nat_abs}
 use Rattle.terms.specs.declared.chip.MapChip.TheVariants.{C6}
 use Rattle.terms.specs.Says.{Says}
-use Rattle.terms.specs.Code as code
-use Rattle.terms.specs.Reading as reading
-use Rattle.terms.proofs.Says.{code_paper, reading_paper}
 use Rattle.inputs.specs.Input.{decoding_refusal}
 use Rattle.maps.specs.Told.{told_of}
 use Rattle.maps.specs.Value.{value_by_id}
@@ -17,22 +14,22 @@ use Rattle.terms.specs.C6Version.{version_of}
 
 module _ (lengths dump map : List ℕ) (minor unit atten : ℕ) where
   -- `rtc_calib_init_code`
-  pub init_code_says : Says code.refusal_of code.value_of 0
+  pub init_code_says : Says 0
       (init_code_of lengths dump map minor unit atten) (told_of lengths C6 map (code_refusal lengths dump map minor unit atten)) (value_by_id C6 dump map (9 + atten) + 1600)
   unfolding init_code_of
-  init_code_says = map_says lengths map C6 code_paper _ _
+  init_code_says = map_says lengths map C6 0 _ _
 
   -- `rtc_calib_cal_code`
-  pub cal_code_says : Says code.refusal_of code.value_of 0
+  pub cal_code_says : Says 0
       (cal_code_of lengths dump map minor unit atten) (told_of lengths C6 map (code_refusal lengths dump map minor unit atten))
       (nat_abs (cal_code (version_of minor) atten (value_by_id C6 dump map (13 + atten))))
   unfolding cal_code_of
-  cal_code_says = map_says lengths map C6 code_paper _ _
+  cal_code_says = map_says lengths map C6 0 _ _
 
 -- `rtc_calib_get_chan_compens`
 pub compens_says : (lengths dump map : List ℕ) (unit channel atten : ℕ)
-    → Says reading.refusal_of reading.value_of (pos 0)
+    → Says (pos 0)
     (chan_compens_of lengths dump map unit channel atten) (told_of lengths C6 map (decoding_refusal lengths C6 dump map unit atten))
     (compens_of atten (value_by_id C6 dump map (17 + min channel 6)))
 unfolding chan_compens_of
-compens_says lengths dump map unit channel atten = map_says lengths map C6 reading_paper _ _
+compens_says lengths dump map unit channel atten = map_says lengths map C6 (pos 0) _ _

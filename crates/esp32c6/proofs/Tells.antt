@@ -4,9 +4,8 @@ use mathlib.Core.Bool.{true, true≢false}
 use mathlib.Core.List.{List}
 use Prim.Native.Nat.{ℕ}
 use Rattle.terms.specs.declared.chip.MapChip.TheVariants.{C6}
-use Rattle.terms.specs.Code as code
 use Rattle.terms.specs.Exactly.{Exactly}
-use Rattle.terms.specs.Reading as reading
+use Rattle.terms.specs.Refusal.{refusal_of}
 use Rattle.maps.specs.Tells.{ToldWhen}
 use Rattle.maps.specs.Told.{of_record}
 use Rattle.maps.specs.When.{MapWhen}
@@ -26,19 +25,19 @@ module _ (lengths dump map : List ℕ) (minor unit atten : ℕ) where
   code_of_map n (good_version k v) t = absurd (true≢false (sym t))
 
   -- `rtc_calib_init_code`
-  pub init_code_told : Exactly (code.refusal_of (init_code_of lengths dump map minor unit atten)) (ToldWhen lengths C6 map (CodeWhen lengths dump map minor unit atten))
+  pub init_code_told : Exactly (refusal_of (init_code_of lengths dump map minor unit atten)) (ToldWhen lengths C6 map (CodeWhen lengths dump map minor unit atten))
   init_code_told =
       rw (init_code_says lengths dump map minor unit atten).refusal_is
       (told_exactly lengths map C6 (code_exactly lengths dump map minor unit atten) code_of_map)
 
   -- `rtc_calib_cal_code`
-  pub cal_code_told : Exactly (code.refusal_of (cal_code_of lengths dump map minor unit atten)) (ToldWhen lengths C6 map (CodeWhen lengths dump map minor unit atten))
+  pub cal_code_told : Exactly (refusal_of (cal_code_of lengths dump map minor unit atten)) (ToldWhen lengths C6 map (CodeWhen lengths dump map minor unit atten))
   cal_code_told =
       rw (cal_code_says lengths dump map minor unit atten).refusal_is
       (told_exactly lengths map C6 (code_exactly lengths dump map minor unit atten) code_of_map)
 
 -- `rtc_calib_get_chan_compens`
 pub compens_told : (lengths dump map : List ℕ) (unit channel atten : ℕ)
-    → Exactly (reading.refusal_of (chan_compens_of lengths dump map unit channel atten)) (ToldWhen lengths C6 map (DecodingWhen lengths C6 dump map unit atten))
+    → Exactly (refusal_of (chan_compens_of lengths dump map unit channel atten)) (ToldWhen lengths C6 map (DecodingWhen lengths C6 dump map unit atten))
 compens_told lengths dump map unit channel atten =
     rw (compens_says lengths dump map unit channel atten).refusal_is (decoding_told lengths C6 dump map unit atten)

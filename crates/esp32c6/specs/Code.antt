@@ -1,15 +1,14 @@
 -- Document 01, "S2, C6 and curves": the C6's initial and reference codes, "as in the crate": `rtc_calib_init_code` and
 -- `rtc_calib_cal_code` of efuse/esp32c6/mod.rs, from ESP-IDF's components/efuse/esp32c6/esp_efuse_rtc_calib.c, lines 35 and 98.
 -- Their refusals: 1, 7, those of the map, 12, by document 02, #109, with 20 after 1.
-use Rattle.std.specs.Prelude.{not, cond, ◌||◌, List, ℕ, ◌+◌, eqb, ℤ, pos, nat_abs, ◌+ℤ◌}
+use Rattle.std.specs.Prelude.{Result, not, cond, ◌||◌, List, ℕ, ◌+◌, eqb, ℤ, pos, nat_abs, ◌+ℤ◌}
 use Rattle.terms.specs.declared.chip.MapChip.TheVariants.{C6}
 use Rattle.terms.specs.Refusal.{refuse, or_else, told}
 use Rattle.terms.specs.Sign.{sign_magnitude}
 use Rattle.inputs.specs.Input.{decoding_refusal}
 use Rattle.maps.specs.Told.{told_of}
 use Rattle.maps.specs.Value.{value_by_id}
-use Rattle.terms.specs.declared.code.Code.{Code}
-use Rattle.terms.specs.declared.code.Code.TheVariants.{Value, Refused}
+use Rattle.terms.specs.declared.refusal.Refusal.{Refusal}
 use Rattle.terms.specs.C6Version.{version_of}
 
 -- 12: C6 version not 1 or 2
@@ -23,9 +22,9 @@ code_refusal lengths dump map minor unit atten =
     (version_refusal minor)
 
 -- the bits of ADC1_INIT_CODE_ATTEN0..3, ids 9 to 12, and 1600
-unfoldable pub init_code_of : List ℕ → List ℕ → List ℕ → ℕ → ℕ → ℕ → Code
+unfoldable pub init_code_of : List ℕ → List ℕ → List ℕ → ℕ → ℕ → ℕ → Result ℕ Refusal
 init_code_of lengths dump map minor unit atten =
-    told (told_of lengths C6 map (code_refusal lengths dump map minor unit atten)) (Value (value_by_id C6 dump map (9 + atten) + 1600)) Refused
+    told (told_of lengths C6 map (code_refusal lengths dump map minor unit atten)) (value_by_id C6 dump map (9 + atten) + 1600)
 
 -- 1500 in version 1; in version 2 it is 2900 at attenuation 2, which is 6 dB, and 2850 at the others
 unfoldable pub offset_of : ℕ → ℕ → ℕ
@@ -36,8 +35,7 @@ unfoldable pub cal_code : ℕ → ℕ → ℕ → ℤ
 cal_code version atten bits = pos (offset_of version atten) +ℤ sign_magnitude 10 bits
 
 -- by the bits of ADC1_CAL_VOL_ATTEN0..3, ids 13 to 16; the code is never negative (`cal_code_whole`)
-unfoldable pub cal_code_of : List ℕ → List ℕ → List ℕ → ℕ → ℕ → ℕ → Code
+unfoldable pub cal_code_of : List ℕ → List ℕ → List ℕ → ℕ → ℕ → ℕ → Result ℕ Refusal
 cal_code_of lengths dump map minor unit atten =
     told (told_of lengths C6 map (code_refusal lengths dump map minor unit atten))
-    (Value (nat_abs (cal_code (version_of minor) atten (value_by_id C6 dump map (13 + atten)))))
-    Refused
+    (nat_abs (cal_code (version_of minor) atten (value_by_id C6 dump map (13 + atten))))

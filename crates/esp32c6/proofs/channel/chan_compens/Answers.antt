@@ -12,18 +12,18 @@ use Rattle.terms.proofs.Machine.{op_fits, op_back}
 use Rattle.esp32c6.specs.Channel.{compens_of}
 use Rattle.esp32c6.proofs.Channels.{compens_fits}
 use Rattle.esp32c6.proofs.channel.chan_compens.Goals as goal
-use Rattle.esp32c6.proofs.channel.chan_compens.Goals.{After-get_signed_val}
+use Rattle.esp32c6.proofs.channel.chan_compens.Goals.{After-sign_magnitude}
 
-code : (c : After-get_signed_val) → to_z w32 (of_z w32 c.get_signed_val.result) ≡ sign_magnitude 4 c.args.chan_diff
-code c = to_z-of_z w32 _ (sfits_of c.get_signed_val.type_inv) ∙ c.get_signed_val.ensures
+code : (c : After-sign_magnitude) → to_z w32 (of_z w32 c.sign_magnitude.result) ≡ sign_magnitude 4 c.args.chan_diff
+code c = to_z-of_z w32 _ (sfits_of c.sign_magnitude.type_inv) ∙ c.sign_magnitude.ensures
 
-weight : (c : After-get_signed_val) → to_z w32 (4 - c.args.atten) ≡ pos (4 - c.args.atten)
+weight : (c : After-sign_magnitude) → to_z w32 (4 - c.args.atten) ≡ pos (4 - c.args.atten)
 weight c = to_z_pos w32 _ (omega arith)
 
 pub overflow_mul-result : goal.overflow_mul-result
 unfolding compens_of
-overflow_mul-result c = op_fits w32 ◌*ℤ◌ (code (goal.at.overflow_mul-result c).After-get_signed_val) (weight (goal.at.overflow_mul-result c).After-get_signed_val) (compens_fits _ _ c.requires.0)
+overflow_mul-result c = op_fits w32 ◌*ℤ◌ (code (goal.at.overflow_mul-result c).After-sign_magnitude) (weight (goal.at.overflow_mul-result c).After-sign_magnitude) (compens_fits _ _ c.requires.0)
 
 pub returns : goal.returns
 unfolding compens_of
-returns c = op_back w32 ◌*ℤ◌ (code (goal.at.returns c).After-get_signed_val) (weight (goal.at.returns c).After-get_signed_val) (compens_fits _ _ c.requires.0)
+returns c = op_back w32 ◌*ℤ◌ (code (goal.at.returns c).After-sign_magnitude) (weight (goal.at.returns c).After-sign_magnitude) (compens_fits _ _ c.requires.0)
