@@ -115,6 +115,17 @@ module _ (lengths map : List ℕ) where
     pub told_went_well : {n : ℕ} {v : Unit} → Ok v ≡ outcome_told (told_of lengths chip map n) → n ≡ 0
     told_went_well e = sym (told_number _) ∙ (went_well _ tt e).0
 
+    -- of two checks in order, of which the second is of no record: the same
+    module _ (first after : ℕ) where
+      pub told_before : {why : Refusal} → Err why ≡ outcome_told (told_of lengths chip map first)
+          → Err why ≡ outcome_told (told_of lengths chip map (or_else first after))
+      told_before e =
+          e ∙ ap (λ n. outcome_told (told_of lengths chip map n)) (sym (or_else_some first after (λ z. (was_refused _ tt e).0 (told_number first ∙ z))))
+
+      pub told_after : {v : Unit} {answer : Result Unit Refusal} → Ok v ≡ outcome_told (told_of lengths chip map first) → of_record after ≡ false
+          → answer ≡ outcome_of after → answer ≡ outcome_told (told_of lengths chip map (or_else first after))
+      told_after e plain h = rw (told_went_well e) (h ∙ outcome_plain after plain)
+
     -- which case an answer is where nothing is refused
     pub map_good : {A : Type 0} (good : A) {number : ℕ} {answer : Result A Refusal} → number ≡ 0 → answer ≡ Ok good
         → answer ≡ told (told_of lengths chip map number) good

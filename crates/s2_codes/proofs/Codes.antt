@@ -48,7 +48,7 @@ module _ (lengths dump map : List ℕ) (unit atten : ℕ) where
     pub code_before : {why : Refusal} → why ≡ told_of lengths S2 map (version_refusal lengths dump map unit atten) → (why.number ≡ 0 → ⊥)
         → code_told lengths dump map unit atten param ≡ why
     unfolding code_told
-    code_before e h = rw (← e) (by_number_refused _ _ _ h)
+    code_before e h = by_number_refused _ _ _ (λ z. h (number_is e ∙ z)) ∙ sym e
 
     pub code_table : version_refusal lengths dump map unit atten ≡ 0
         → code_told lengths dump map unit atten param ≡ plain (chain_refusal lengths (tag_of 2 unit atten param))

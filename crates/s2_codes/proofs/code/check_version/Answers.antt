@@ -6,13 +6,14 @@ use Prim.Native.Nat.{ℕ}
 use Rattle.std.proofs.lemmas.Result.{err_from_is_err_and}
 use Rattle.terms.specs.declared.chip.MapChip.TheVariants.{S2}
 use Rattle.terms.specs.Refusal.{outcome_told}
-use Rattle.terms.proofs.Refusals.{was_refused, answered_refused}
+use Rattle.terms.proofs.Refusals.{answered_refused}
 use Rattle.maps.specs.Told.{told_of}
-use Rattle.maps.proofs.Told.{told_number, told_went_well, outcome_plain}
+use Rattle.maps.proofs.Told.{told_before, told_went_well, outcome_plain}
 use Rattle.inputs.proofs.Inputs.{decoding_good}
 use Rattle.esp32s2.specs.Version.{version_of}
 use Rattle.esp32s2.proofs.Fields.{field_is}
-use Rattle.s2_codes.proofs.Codes.{code_decoding, code_twelve, code_given}
+use Rattle.s2_codes.specs.Code.{version_refusal}
+use Rattle.s2_codes.proofs.Codes.{code_twelve, code_given}
 use Rattle.s2_codes.proofs.code.check_version.Goals as goal
 use Rattle.s2_codes.proofs.code.check_version.Goals.{After-record_value}
 
@@ -20,13 +21,10 @@ version : (c : After-record_value) → c.record_value.result ≡ version_of c.ar
 version c = field_is _ _ _ (decoding_good _ _ _ _ _ _ (told_went_well _ _ _ c.in_ok-check_decoding.ensures)).0 0 (lit≤ tt) c.record_value.ensures
 
 pub returns-in_err-check_decoding : goal.returns-in_err-check_decoding
+unfolding version_refusal
 returns-in_err-check_decoding c =
     let p = err_from_is_err_and c.from_residual.result c.from_residual.ensures.1 in
-    let refused = was_refused _ tt c.in_err-check_decoding.ensures in
-    rw (p.1, p.2)
-    (c.in_err-check_decoding.ensures
-    ∙ ap (λ (n : ℕ). outcome_told (told_of c.args.lengths.now S2 c.args.map.now n))
-    (code_decoding _ _ _ _ _ refl (λ z. refused.0 (told_number _ _ _ _ ∙ z))))
+    rw (p.1, p.2) (told_before _ _ _ _ _ c.in_err-check_decoding.ensures)
 
 pub returns-then-record_value : goal.returns-then-record_value
 returns-then-record_value c =
