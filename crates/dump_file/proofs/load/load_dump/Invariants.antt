@@ -1,11 +1,6 @@
-use Prim.Native.Nat.{◌-◌}
-use lib.ListN.{length}
 use Rattle.terms.proofs.Tab.{Filled}
 use Rattle.dump_file.specs.Load.{word_at}
 use Rattle.dump_file.proofs.load.load_dump.Given as goal
 
 abbrev pub invariant-loop-k : goal.invariant-loop-k
 invariant-loop-k l = Filled (word_at l.bytes) l.initial.room l.room l.k
-
-abbrev pub decreases-loop-k : goal.decreases-loop-k
-decreases-loop-k l = length l.room - l.k
