@@ -4,27 +4,12 @@ ghost use Rattle.terms.specs.Put.{Put};
 ghost use Rattle.words.specs.Put.{decimal, put_past, put_into};
 ghost use Rattle.bad_record.specs.Told.{id_of, place_of, wrong_id, wrong_byte, wrong_of, bad_text};
 
+use terms::refusal;
 use terms::refusal::Refusal;
 use words::put::{has_room, put_decimal, put_word};
 
 // The most bytes of those words: 51 for the record, 60 for what is wrong.
 pub const BAD_BYTES: usize = 111;
-
-// A word, at a place with room for it.
-fn put(out: &mut [u8], at: usize, word: &[u8]) -> usize
-    requires { at + length word.now ≤ length out.old }
-    ensures { Put out.old at word.now result out.new }
-{
-    put_word(out, at, word)
-}
-
-// A number in decimal, at a place with room for any.
-fn put_number(out: &mut [u8], at: usize, n: u64) -> usize
-    requires { at + 20 ≤ length out.old }
-    ensures { Put out.old at (decimal n) result out.new × (result ≤ at + 20) }
-{
-    put_decimal(out, at, n)
-}
 
 // The name of the id that a record of an ESP32's map has.
 fn put_id(out: &mut [u8], at: usize, k: u8) -> usize
@@ -32,12 +17,12 @@ fn put_id(out: &mut [u8], at: usize, k: u8) -> usize
     ensures { Put out.old at (id_of k) result out.new × (result ≤ at + 17) }
 {
     match k {
-        0 => put(out, at, b"ADC_VREF"),
-        1 => put(out, at, b"BLK3_PART_RESERVE"),
-        2 => put(out, at, b"ADC1_TP_LOW"),
-        3 => put(out, at, b"ADC2_TP_LOW"),
-        4 => put(out, at, b"ADC1_TP_HIGH"),
-        _ => put(out, at, b"ADC2_TP_HIGH"),
+        0 => put_word(out, at, b"ADC_VREF"),
+        1 => put_word(out, at, b"BLK3_PART_RESERVE"),
+        2 => put_word(out, at, b"ADC1_TP_LOW"),
+        3 => put_word(out, at, b"ADC2_TP_LOW"),
+        4 => put_word(out, at, b"ADC1_TP_HIGH"),
+        _ => put_word(out, at, b"ADC2_TP_HIGH"),
     }
 }
 
@@ -46,11 +31,11 @@ fn put_place(out: &mut [u8], at: usize, k: u8) -> usize
     requires { at + 51 ≤ length out.old }
     ensures { Put out.old at (place_of k) result out.new × (result ≤ at + 51) }
 {
-    let next = put(out, at, b": record ");
-    let next = put_number(out, next, k as u64);
-    let next = put(out, next, b" (");
+    let next = put_word(out, at, b": record ");
+    let next = put_decimal(out, next, k as u64);
+    let next = put_word(out, next, b" (");
     let next = put_id(out, next, k);
-    put(out, next, b"): ")
+    put_word(out, next, b"): ")
 }
 
 // A record whose id isn't the one that its place asks for, from 1 on.
@@ -58,8 +43,8 @@ fn put_wrong_id(out: &mut [u8], at: usize, k: u8) -> usize
     requires { at + 33 ≤ length out.old }
     ensures { Put out.old at (wrong_id k) result out.new × (result ≤ at + 33) }
 {
-    let next = put(out, at, b"its id isn't ");
-    put_number(out, next, k as u64 + 1)
+    let next = put_word(out, at, b"its id isn't ");
+    put_decimal(out, next, k as u64 + 1)
 }
 
 // A byte that should be zero.
@@ -67,9 +52,9 @@ fn put_wrong_byte(out: &mut [u8], at: usize, place: u8) -> usize
     requires { at + 36 ≤ length out.old }
     ensures { Put out.old at (wrong_byte place) result out.new × (result ≤ at + 36) }
 {
-    let next = put(out, at, b"byte ");
-    let next = put_number(out, next, place as u64);
-    put(out, next, b" isn't zero")
+    let next = put_word(out, at, b"byte ");
+    let next = put_decimal(out, next, place as u64);
+    put_word(out, next, b" isn't zero")
 }
 
 // What is wrong with a record of the map.
@@ -77,17 +62,16 @@ fn put_wrong(out: &mut [u8], at: usize, why: Refusal) -> usize
     requires { at + 60 ≤ length out.old }
     ensures { Put out.old at (wrong_of why) result out.new × (result ≤ at + 60) }
 {
-    let number = why.number;
-    match number {
-        3 => put_wrong_id(out, at, why.record),
-        18 => put_wrong_byte(out, at, why.place),
-        4 => put(out, at, b"its block is above 10"),
-        5 => put(
+    match why.number {
+        refusal::MAP_ID => put_wrong_id(out, at, why.record),
+        refusal::MAP_BYTE => put_wrong_byte(out, at, why.place),
+        refusal::BLOCK => put_word(out, at, b"its block is above 10"),
+        refusal::BIT_RANGE => put_word(
             out,
             at,
             b"its bit start is above 255, or its block is too short for it",
         ),
-        _ => put(out, at, b"its bit count isn't its id's"),
+        _ => put_word(out, at, b"its bit count isn't its id's"),
     }
 }
 
@@ -102,10 +86,12 @@ fn put_whole(out: &mut [u8], at: usize, why: Refusal) -> usize
 
 // Puts the words for a refusal of a record at a place, and answers the place past them; where there is no room for 111 bytes, it puts
 // nothing.
+#[tactic(auto, unfolding(words::specs::Put::put_past, words::specs::Put::put_into))]
 pub fn put_bad_record(out: &mut [u8], at: usize, why: Refusal) -> usize
     ensures past { result ≡ put_past 111 out.old at (bad_text why) }
     ensures text { out.new ≡ put_into 111 out.old at (bad_text why) }
     ensures short { result ≤ at + 111 }
+    ensures put { at + 111 ≤ length out.old → Put out.old at (bad_text why) result out.new }
 {
     if has_room(out.len(), at, BAD_BYTES) {
         return put_whole(out, at, why);

@@ -1,8 +1,7 @@
--- `bad_record::put_wrong_id` meets its contract: a word, then the id.
-use native.Mathlib.Omega.{arith}
+-- `bad_record::put_wrong_id` meets its contract: two texts, one after the other.
+use borrow.Author.Rules.{rules}
 use Rattle.terms.proofs.Puts.{put_more}
 use Rattle.bad_record.proofs.told.put_wrong_id.Goals as goal
 
 pub returns : goal.returns
-returns c =
-    (put_more c.put-next.ensures c.put_number.ensures.0, omega (arith, c.put-next.ensures.past))
+returns c = (put_more (c.put_word-next.ensures.put (search rules)) (c.put_decimal.ensures.put (search rules)), search rules)
