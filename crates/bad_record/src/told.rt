@@ -86,6 +86,7 @@ fn put_whole(out: &mut [u8], at: usize, why: Refusal) -> usize
 
 // Puts the words for a refusal of a record at a place, and answers the place past them; where there is no room for 111 bytes, it puts
 // nothing.
+// Kept: a place in lent bytes, and no writer: what docs/RULES.md promises of `put_bad_record` is the place past the words, or none written.
 #[tactic(auto, unfolding(words::specs::Put::put_past, words::specs::Put::put_into))]
 pub fn put_bad_record(out: &mut [u8], at: usize, why: Refusal) -> usize
     ensures past { result ≡ put_past 111 out.old at (bad_text why) }

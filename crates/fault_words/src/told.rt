@@ -78,6 +78,7 @@ fn number_of(why: Option<Refusal>) -> u8
 }
 
 // A fault's line, of at most 160 bytes; of none there is no line.
+#[tactic(auto, using(terms::proofs::Puts::put_none, terms::proofs::Puts::put_more), unfolding(crate::specs::Told::fault_text))]
 fn put_line(out: &mut [u8], file: File, fault: Option<Fault>) -> usize
     requires { 160 ≤ length out.old }
     ensures { Put out.old 0 (fault_text file fault) result out.new }
@@ -105,6 +106,7 @@ fn put_line(out: &mut [u8], file: File, fault: Option<Fault>) -> usize
 // Puts the line of what is wrong with a file at the start of the lent bytes, and tells its length: 0 where nothing is. There is always
 // room for it. The file is given by its bytes, or as `None` where there is no such file; the list of block lengths is the one that the map
 // is gone by.
+// Kept: a length beside lent bytes, and no String: what docs/RULES.md promises of `put_fault` is that, and a String wants an allocator.
 pub fn put_fault(out: &mut [u8; 160], file: File, lengths: &[u8], bytes: Option<&[u8]>) -> usize
     ensures line { Put out.old 0 (fault_text file (fault_of file lengths.now (option_copied bytes.entry))) result out.new }
     ensures counts { IsPrefixLen result out.new }
