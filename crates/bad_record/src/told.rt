@@ -12,6 +12,7 @@ use words::put::{has_room, put_decimal, put_word};
 pub const BAD_BYTES: usize = 111;
 
 // The name of the id that a record of an ESP32's map has.
+// Kept: here and below, lent bytes and a place, and no struct of both: each text asks for a room of its own, and `put_word` takes them so.
 fn put_id(out: &mut [u8], at: usize, k: u8) -> usize
     requires { at + 17 ≤ length out.old }
     ensures { Put out.old at (id_of k) result out.new × (result ≤ at + 17) }

@@ -26,6 +26,7 @@ fn put_name(out: &mut [u8], file: File) -> usize
 }
 
 // Why a file is turned down: a dump with 1, a map with 2 or for a record, a list of block lengths with 20.
+// Kept: here and below, lent bytes and a place, and no struct of both: each text asks for a room of its own, and `put_word` takes them so.
 fn put_words(out: &mut [u8], at: usize, why: Refusal) -> usize
     requires { at + 111 ≤ length out.old }
     ensures { Put out.old at (words_of why) result out.new × (result ≤ at + 111) }
