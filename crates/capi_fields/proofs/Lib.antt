@@ -1,3 +1,2 @@
-pub mod Chips
 pub mod Places
 pub mod Unique

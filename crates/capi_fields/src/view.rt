@@ -3,16 +3,17 @@ ghost use Rattle.std.specs.Prelude.{◌≡◌};
 ghost use Rattle.dumps.specs.View.{board_dump, part_of, view_of};
 ghost use Rattle.capi_fields.specs.View.{view_c};
 
-use capi::answer::{SkvRefusal, plain_c};
+use capi::answer::SkvRefusal;
 use dumps::lengths::words_of;
 use dumps::view;
 use terms::refusal;
+use terms::refusal::plain;
 
 const BLOCK_WORDS: u32 = 8;
 
 // A part of a board's dump: its first word, and how many there are.
 #[repr(C)]
-#[derive(Clone, Copy)]
+#[derive(Clone, Copy, Debug, PartialEq, Eq)]
 pub struct SkvView {
     pub refusal: SkvRefusal,
     pub board: u8,
@@ -33,19 +34,18 @@ pub extern "C" fn skv_view<'a>(
     ensures answer { result ≡ view_c lengths.now field.entry reference.entry board block }
     ensures part { view_of lengths.now field.entry reference.entry board block ≡ part_of (board_dump field.entry reference.entry result.board) result.first result.words }
 {
-    let number = view::view_refusal(field, reference, lengths, board, block);
-    if number != refusal::NONE {
-        return SkvView {
-            refusal: plain_c(number),
+    match view::check_view(field, reference, lengths, board, block) {
+        Ok(()) => SkvView {
+            refusal: plain(refusal::NONE).into(),
+            board,
+            first: BLOCK_WORDS * (block as u32),
+            words: words_of(lengths, block) as u32,
+        },
+        Err(why) => SkvView {
+            refusal: why.into(),
             board: 0,
             first: 0,
             words: 0,
-        };
-    }
-    SkvView {
-        refusal: plain_c(refusal::NONE),
-        board,
-        first: BLOCK_WORDS * (block as u32),
-        words: words_of(lengths, block) as u32,
+        },
     }
 }
