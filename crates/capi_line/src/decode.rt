@@ -3,33 +3,40 @@ ghost use Rattle.std.specs.Prelude.{◌≡◌};
 ghost use Rattle.esp32.specs.Decode.{decode_of};
 ghost use Rattle.capi_line.specs.Decode.{decoded_c};
 
-use crate::record::{NO_RECORD, SkvLineRecord, record_c};
-use capi::answer::{SkvRefusal, plain_c, refusal_c};
+use crate::record::SkvLineRecord;
+use capi::answer::{SkvRefusal, parts};
 use esp32::decode;
-use line_record::decoded::{Decoded, refusal_of};
-use terms::refusal;
+use line_record::record::{LineRecord, Source};
+use terms::refusal::Refusal;
+
+// What stands in a record's place beside a refusal.
+const NO_RECORD: LineRecord = LineRecord {
+    coeff_a: 0,
+    coeff_b: 0,
+    vref: 0,
+    unit: 0,
+    atten: 0,
+    source: Source::TwoPoint,
+};
 
 // A line record, or why there is none.
 #[repr(C)]
-#[derive(Clone, Copy)]
+#[derive(Clone, Copy, Debug, PartialEq, Eq)]
 pub struct SkvDecoded {
     pub refusal: SkvRefusal,
     pub record: SkvLineRecord,
 }
 
 // What C is given of a decoding.
-fn decoded_c(decoded: Decoded) -> SkvDecoded
-    ensures { result ≡ decoded_c decoded }
-{
-    let Decoded::Record(cal) = decoded else {
-        return SkvDecoded {
-            refusal: refusal_c(refusal_of(decoded)),
-            record: NO_RECORD,
-        };
-    };
-    SkvDecoded {
-        refusal: plain_c(refusal::NONE),
-        record: record_c(cal),
+impl From<Result<LineRecord, Refusal>> for SkvDecoded {
+    ghost from_gives = { λ decoded told. told ≡ decoded_c decoded };
+
+    fn from(decoded: Result<LineRecord, Refusal>) -> SkvDecoded {
+        let (refusal, record) = parts(decoded, NO_RECORD);
+        SkvDecoded {
+            refusal,
+            record: record.into(),
+        }
     }
 }
 
@@ -37,5 +44,5 @@ fn decoded_c(decoded: Decoded) -> SkvDecoded
 pub fn skv_decode(dump: &[u32], lengths: &[u8], map: &[u8], unit: u8, atten: u8) -> SkvDecoded
     ensures { result ≡ decoded_c (decode_of lengths.now dump.now map.now unit atten) }
 {
-    decoded_c(decode::decode(dump, lengths, map, unit, atten))
+    decode::decode(dump, lengths, map, unit, atten).into()
 }

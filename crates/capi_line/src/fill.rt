@@ -5,11 +5,11 @@ ghost use Rattle.stretch.specs.Fill.{fill_refusal, filled};
 ghost use Rattle.capi.specs.Answer.{outcome_c};
 ghost use Rattle.capi_line.specs.Record.{handed, by_record};
 
-use crate::record::{Handed, SkvLineRecord, no_source, record_from};
-use capi::answer::{SkvCount, SkvOutcome, outcome_c};
+use crate::record::SkvLineRecord;
+use capi::answer::{SkvCount, SkvOutcome};
+use line_record::record::LineRecord;
 use stretch::fill;
 use terms::quantity::Count;
-use terms::refusal::Outcome;
 
 // Writes the answers of the counts from a first one on, as many as the lent list has numbers. A refusal, 10, 11, leaves the list as it
 // was.
@@ -17,8 +17,8 @@ pub fn skv_fill(cal: SkvLineRecord, first: SkvCount, out: &mut [u16]) -> SkvOutc
     ensures answer { result ≡ outcome_c (by_record (handed cal) (λ line. outcome_of (fill_refusal line first.raw (length out.old))) (outcome_of 10)) }
     ensures lent { out.new ≡ by_record (handed cal) (λ line. filled line first.raw out.old) out.old }
 {
-    let Handed::Record(record) = record_from(cal) else {
-        return outcome_c(Outcome::Refused(no_source()));
-    };
-    outcome_c(fill::fill(record, Count(first.raw), out))
+    match LineRecord::try_from(cal) {
+        Ok(cal) => fill::fill(cal, Count(first.raw), out).into(),
+        Err(why) => SkvOutcome::from(Err(why)),
+    }
 }

@@ -1,15 +1,15 @@
 // The line record.
-ghost use Rattle.std.specs.Prelude.{◌≡◌};
+ghost use Rattle.std.specs.Prelude.{◌≡◌, ok_or};
 ghost use Rattle.terms.specs.Refusal.{plain, outcome_of};
 ghost use Rattle.line_record.specs.Record.{record_refusal};
 ghost use Rattle.capi.specs.Answer.{outcome_c};
-ghost use Rattle.capi_line.specs.Record.{with_source, handed, by_record, source_c, record_c};
+ghost use Rattle.capi_line.specs.Record.{handed, by_record, source_c, record_c};
 
-use capi::answer::{SkvOutcome, outcome_c};
+use capi::answer::SkvOutcome;
 use line_record::record;
 use line_record::record::{LineRecord, Source};
 use terms::refusal;
-use terms::refusal::{Outcome, Refusal};
+use terms::refusal::{Refusal, plain};
 
 const TWO_POINT: u8 = 0;
 
@@ -17,7 +17,7 @@ const VREF: u8 = 1;
 
 // A line record; its source is `TWO_POINT` or `VREF`.
 #[repr(C)]
-#[derive(Clone, Copy)]
+#[derive(Clone, Copy, Debug, PartialEq, Eq)]
 pub struct SkvLineRecord {
     pub coeff_a: u32,
     pub coeff_b: u32,
@@ -27,47 +27,31 @@ pub struct SkvLineRecord {
     pub source: u8,
 }
 
-// What C handed in for a record.
-#[derive(Clone, Copy)]
-pub(crate) enum Handed {
-    Record(LineRecord),
-    NoSource,
-}
+// The record that C handed in, or 10 where its byte for the source names none, which comes before all else. Each call checks the rest.
+#[tactic(auto, unfolding(crate::specs::Record::handed))]
+impl TryFrom<SkvLineRecord> for LineRecord {
+    type Error = Refusal;
 
-// The record that C handed in, with its source.
-fn with_source(cal: SkvLineRecord, source: Source) -> LineRecord
-    ensures { result ≡ with_source cal source }
-{
-    LineRecord {
-        coeff_a: cal.coeff_a,
-        coeff_b: cal.coeff_b,
-        vref: cal.vref,
-        unit: cal.unit,
-        atten: cal.attenuation,
-        source,
+    ghost try_from_gives = { λ cal line. line ≡ ok_or (handed cal) (plain 10) };
+
+    fn try_from(cal: SkvLineRecord) -> Result<LineRecord, Refusal> {
+        let source = match cal.source {
+            TWO_POINT => Source::TwoPoint,
+            VREF => Source::Vref,
+            _ => return Err(plain(refusal::LINE_RECORD)),
+        };
+        Ok(LineRecord {
+            coeff_a: cal.coeff_a,
+            coeff_b: cal.coeff_b,
+            vref: cal.vref,
+            unit: cal.unit,
+            atten: cal.attenuation,
+            source,
+        })
     }
 }
 
-// The record that C handed in, or none where its byte for the source names none. Each call checks the rest.
-pub(crate) fn record_from(cal: SkvLineRecord) -> Handed
-    ensures { result ≡ handed cal }
-{
-    if cal.source == TWO_POINT {
-        return Handed::Record(with_source(cal, Source::TwoPoint));
-    }
-    if cal.source == VREF {
-        return Handed::Record(with_source(cal, Source::Vref));
-    }
-    Handed::NoSource
-}
-
-// Why a record without a source is refused. It comes before all else, as every refusal of a record does.
-pub(crate) fn no_source() -> Refusal
-    ensures { result ≡ plain 10 }
-{
-    refusal::plain(refusal::LINE_RECORD)
-}
-
+// The byte of a source.
 fn source_c(source: Source) -> u8
     ensures { result ≡ source_c source }
 {
@@ -78,35 +62,27 @@ fn source_c(source: Source) -> u8
 }
 
 // What C is given of a record.
-pub(crate) fn record_c(cal: LineRecord) -> SkvLineRecord
-    ensures { result ≡ record_c cal }
-{
-    let source = cal.source;
-    SkvLineRecord {
-        coeff_a: cal.coeff_a,
-        coeff_b: cal.coeff_b,
-        vref: cal.vref,
-        unit: cal.unit,
-        attenuation: cal.atten,
-        source: source_c(source),
+impl From<LineRecord> for SkvLineRecord {
+    ghost from_gives = { λ line cal. cal ≡ record_c line };
+
+    fn from(cal: LineRecord) -> SkvLineRecord {
+        SkvLineRecord {
+            coeff_a: cal.coeff_a,
+            coeff_b: cal.coeff_b,
+            vref: cal.vref,
+            unit: cal.unit,
+            attenuation: cal.atten,
+            source: source_c(cal.source),
+        }
     }
 }
-
-pub(crate) const NO_RECORD: SkvLineRecord = SkvLineRecord {
-    coeff_a: 0,
-    coeff_b: 0,
-    vref: 0,
-    unit: 0,
-    attenuation: 0,
-    source: 0,
-};
 
 // Good where the record may be converted by. Refusal 10.
 pub fn skv_check_record(cal: SkvLineRecord) -> SkvOutcome
     ensures { result ≡ outcome_c (by_record (handed cal) (λ line. outcome_of (record_refusal line)) (outcome_of 10)) }
 {
-    let Handed::Record(record) = record_from(cal) else {
-        return outcome_c(Outcome::Refused(no_source()));
-    };
-    outcome_c(record::check_record(record))
+    match LineRecord::try_from(cal) {
+        Ok(cal) => record::check_record(cal).into(),
+        Err(why) => SkvOutcome::from(Err(why)),
+    }
 }
