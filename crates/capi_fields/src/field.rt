@@ -51,6 +51,7 @@ impl From<Result<u32, Refusal>> for SkvRead {
 }
 
 // Kept: C has a call for each width, by its own name.
+
 // Reads a field at 8 bits. Refusals 1, 20, 4, 5.
 #[unsafe(no_mangle)]
 pub extern "C" fn skv_read_field_u8(dump: &[u32], lengths: &[u8], field: SkvField) -> SkvRead

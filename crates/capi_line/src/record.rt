@@ -3,7 +3,7 @@ ghost use Rattle.std.specs.Prelude.{◌≡◌, ok_or};
 ghost use Rattle.terms.specs.Refusal.{plain, outcome_of};
 ghost use Rattle.line_record.specs.Record.{record_refusal};
 ghost use Rattle.capi.specs.Answer.{outcome_c};
-ghost use Rattle.capi_line.specs.Record.{handed, by_record, source_c, record_c};
+ghost use Rattle.capi_line.specs.Record.{handed, by_record, record_c};
 
 use capi::answer::SkvOutcome;
 use line_record::record;
@@ -51,16 +51,6 @@ impl TryFrom<SkvLineRecord> for LineRecord {
     }
 }
 
-// The byte of a source.
-fn source_c(source: Source) -> u8
-    ensures { result ≡ source_c source }
-{
-    match source {
-        Source::TwoPoint => TWO_POINT,
-        Source::Vref => VREF,
-    }
-}
-
 // What C is given of a record.
 impl From<LineRecord> for SkvLineRecord {
     ghost from_gives = { λ line cal. cal ≡ record_c line };
@@ -72,7 +62,10 @@ impl From<LineRecord> for SkvLineRecord {
             vref: cal.vref,
             unit: cal.unit,
             attenuation: cal.atten,
-            source: source_c(cal.source),
+            source: match cal.source {
+                Source::TwoPoint => TWO_POINT,
+                Source::Vref => VREF,
+            },
         }
     }
 }
