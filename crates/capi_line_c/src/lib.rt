@@ -1,8 +1,8 @@
 // ESP32 line calibration for C: the exports of the calls of capi_line, each with the clauses of the call that it hands on.
+// Kept: each call has the name and the parameters that include/suongkivat.h declares.
 #![tactic(auto)]
 
-ghost use Rattle.std.specs.Prelude.{◌≡◌, length};
-ghost use Rattle.terms.specs.declared.voltage.Voltage.TheVariants.{Refused};
+ghost use Rattle.std.specs.Prelude.{◌≡◌, Err, length};
 ghost use Rattle.terms.specs.Refusal.{plain, outcome_of};
 ghost use Rattle.line_record.specs.Record.{record_refusal};
 ghost use Rattle.line.specs.Convert.{convert_of};
@@ -42,7 +42,7 @@ pub extern "C" fn skv_check_record(cal: SkvLineRecord) -> SkvOutcome
 // The millivolts of a count. Refusals 10, 8.
 #[unsafe(no_mangle)]
 pub extern "C" fn skv_convert(cal: SkvLineRecord, count: SkvCount) -> SkvVoltage
-    ensures { result ≡ voltage_c (by_record (handed cal) (λ line. convert_of line count.raw) (Refused (plain 10))) }
+    ensures { result ≡ voltage_c (by_record (handed cal) (λ line. convert_of line count.raw) (Err (plain 10))) }
 {
     convert::skv_convert(cal, count)
 }

@@ -1,5 +1,0 @@
--- `capi_line_c::skv_convert` meets its contract: it gives the answer of capi_line's call.
-use Rattle.capi_line_c.proofs.skv_convert.Goals as goal
-
-pub returns : goal.returns
-returns c = c.skv_convert.ensures
