@@ -5,7 +5,7 @@ ghost use Rattle.curve.specs.Correct.{correct_of};
 ghost use Rattle.capi_curve.specs.Correct.{millivolt_from};
 ghost use Rattle.capi.specs.Answer.{voltage_c};
 
-use capi::answer::{SkvMillivolt, SkvVoltage, voltage_c};
+use capi::answer::{SkvMillivolt, SkvVoltage};
 use curve::correct;
 use terms::chip::numbered;
 use terms::quantity::Millivolt;
@@ -22,5 +22,5 @@ pub extern "C" fn skv_correct(
 ) -> SkvVoltage
     ensures { result ≡ voltage_c (correct_of (numbered chip minor) unit atten (millivolt_from line)) }
 {
-    voltage_c(correct::correct(numbered(chip, minor), unit, atten, Millivolt(line.mv)))
+    correct::correct(numbered(chip, minor), unit, atten, Millivolt(line.mv)).into()
 }
