@@ -3,10 +3,8 @@
 use Rattle.std.proofs.Common.{◌≡◌, ℕ, ◌+◌, ◌-◌, ◌*◌, ◌%◌, ◌^◌, ◌<◌, ◌≤◌, Bool, true, false, cond, eqb, ℤ, pos, ◌+ℤ◌, ◌*ℤ◌, neg_ℤ, nat_abs, sym, refl, ap, ◌∙◌, mod-lt, mul_comm, arith, lit≤, pow_pos, pow_mono, le-ltb, lt-ltb}
 use lib.IntN.{*ℤ_comm}
 use Rattle.terms.specs.Sign.{sign_magnitude}
-use Rattle.terms.specs.Unit.{by_unit}
 use Rattle.terms.proofs.Order.{either}
 use Rattle.terms.proofs.Sign.{sign_plus, sign_minus, sign_fits}
-use Rattle.terms.proofs.Units.{by_unit_lem}
 use Rattle.terms.proofs.Whole.{up, dn, sum_is, up_neg, dn_neg, up_times, dn_times, not_negative}
 use Rattle.esp32.specs.Code.{stepped, vref_of, wrapped, two_point_code, point_of, low_of, high_of}
 use Rattle.esp32.specs.Private.{Coded, Apart}
@@ -115,17 +113,6 @@ module _ {base width bits sign : ℕ} (k : Coded base width bits) (worth : sign 
       let same : r ≡ wrapped bits = omega arith in
       rw (same, code_minus width bits (omega arith), ← worth)
       (stepped_minus base 4 (wrapped bits % sign) (cut_room (wrapped bits)))
-
--- a unit's bases have room for the lowest codes
-pub low_coded : (unit bits : ℕ) → bits < 128 → Coded (by_unit unit 278 421) 7 bits
-low_coded unit bits h =
-    let base = by_unit_lem (λ base. (256 ≤ base) × (base ≤ 3406)) unit (lit≤ tt, lit≤ tt) (lit≤ tt, lit≤ tt) in
-    record { some = lit≤ tt; short = lit≤ tt; inside = h; room = base.0; most = base.1 }
-
-pub high_coded : (unit bits : ℕ) → bits < 512 → Coded (by_unit unit 3265 3406) 9 bits
-high_coded unit bits h =
-    let base = by_unit_lem (λ base. (1024 ≤ base) × (base ≤ 3406)) unit (lit≤ tt, lit≤ tt) (lit≤ tt, lit≤ tt) in
-    record { some = lit≤ tt; short = lit≤ tt; inside = h; room = base.0; most = base.1 }
 
 -- "d = high − low (never below 1713)"
 pub points_apart : (unit low high : ℕ) → Apart (low_of unit low) (high_of unit high)

@@ -18,7 +18,7 @@ use Rattle.esp32.specs.Code.{low_of, high_of}
 use Rattle.esp32.specs.Characterize.{adc1_tp_scale, adc2_tp_scale, adc1_tp_offset, adc2_tp_offset, tp_scale, tp_offset}
 use Rattle.esp32.specs.Characterize.{two_point_a, top_of, b_of, b_refusal, two_point_b, coefficients_of, basis_refusal}
 use Rattle.esp32.specs.Decode.{source_of}
-use Rattle.esp32.specs.Private.{Apart, InBits, tp_atten_of}
+use Rattle.esp32.specs.Private.{Apart, tp_atten_of}
 use Rattle.esp32.proofs.Codes.{points_apart}
 
 -- the largest entries, of either unit at any attenuation
@@ -101,7 +101,3 @@ pub by_vref : (unit atten vref : ℕ) (basis : Basis) → source_of basis ≡ so
 unfolding coefficients_of source_of
 by_vref unit atten vref (TwoPoint low high) s = absurd (two_point_not_vref s)
 by_vref unit atten vref Vref s = refl
-
--- the codes of a basis by two points
-pub in_bits : {basis : Basis} {low high : ℕ} → basis ≡ TwoPoint low high → InBits basis → (low < 128) × (high < 512)
-in_bits e h = rw e at h

@@ -27,9 +27,6 @@ use Rattle.maps.proofs.Exactly.{record_exactly}
 pub place_byte : {n place stray : ℕ} → n ≡ 18 → place ≡ stray → place ≡ cond (eqb n 18) stray 0
 place_byte h e = e ∙ rw (eq-eqb _ _ h)
 
-pub place_none : {n : ℕ} (stray : ℕ) → (n ≡ 18 → ⊥) → 0 ≡ cond (eqb n 18) stray 0
-place_none stray h = rw (ne_eqb _ _ h)
-
 -- a test for a number that is of no record gives none of a record
 pub refuse_plain : (t : Bool) (n : ℕ) → of_record n ≡ false → of_record (refuse t n 0) ≡ false
 refuse_plain true n e = e

@@ -1,4 +1,4 @@
--- A text written into lent memory, with its room: what private functions promise of it. No public promise cites it.
+-- A text written into lent memory, with its room.
 use Rattle.std.specs.Prelude.{◌≡◌, List, ℕ, ◌+◌, ◌≤◌, length}
 use Rattle.terms.specs.Table.{written}
 
