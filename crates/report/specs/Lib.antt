@@ -1,4 +1,3 @@
 pub mod Output
 pub mod Part
-pub mod Private
 pub mod Step
