@@ -3,32 +3,28 @@ ghost use Rattle.std.specs.Prelude.{◌≡◌};
 ghost use Rattle.esp32s2.specs.Encryption.{flash_encryption_of};
 ghost use Rattle.capi_s2.specs.Encryption.{flash_encryption_c};
 
-use capi::answer::{SkvRefusal, plain_c, refusal_c, yes_or_no};
+use capi::answer::{SkvRefusal, parts};
 use esp32s2::encryption;
-use esp32s2::encryption::FlashEncryption;
-use terms::refusal;
+use terms::refusal::Refusal;
 
 // Whether flash encryption is on, 1 for yes and 0 for no, or why that isn't known.
 #[repr(C)]
-#[derive(Clone, Copy)]
+#[derive(Clone, Copy, Debug, PartialEq, Eq)]
 pub struct SkvFlashEncryption {
     pub refusal: SkvRefusal,
     pub on: u8,
 }
 
 // What C is given of that.
-fn flash_encryption_c(answer: FlashEncryption) -> SkvFlashEncryption
-    ensures { result ≡ flash_encryption_c answer }
-{
-    match answer {
-        FlashEncryption::Value(on) => SkvFlashEncryption {
-            refusal: plain_c(refusal::NONE),
-            on: yes_or_no(on),
-        },
-        FlashEncryption::Refused(why) => SkvFlashEncryption {
-            refusal: refusal_c(why),
-            on: 0,
-        },
+impl From<Result<bool, Refusal>> for SkvFlashEncryption {
+    ghost from_gives = { λ answer told. told ≡ flash_encryption_c answer };
+
+    fn from(answer: Result<bool, Refusal>) -> SkvFlashEncryption {
+        let (refusal, on) = parts(answer, false);
+        SkvFlashEncryption {
+            refusal,
+            on: on.into(),
+        }
     }
 }
 
@@ -41,5 +37,5 @@ pub extern "C" fn skv_s2_flash_encryption(
 ) -> SkvFlashEncryption
     ensures { result ≡ flash_encryption_c (flash_encryption_of lengths.now dump.now map.now) }
 {
-    flash_encryption_c(encryption::flash_encryption(dump, lengths, map))
+    encryption::flash_encryption(dump, lengths, map).into()
 }

@@ -1,4 +1,5 @@
 // The S2's calibration table for C, and flash encryption.
+// Kept: each call has the name and the parameters that include/suongkivat.h declares.
 #![tactic(auto)]
 
 pub mod code;
