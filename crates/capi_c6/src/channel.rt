@@ -3,7 +3,7 @@ ghost use Rattle.std.specs.Prelude.{◌≡◌};
 ghost use Rattle.esp32c6.specs.Channel.{chan_compens_of};
 ghost use Rattle.capi.specs.Answer.{reading_c};
 
-use capi::answer::{SkvReading, reading_c};
+use capi::answer::SkvReading;
 use esp32c6::channel;
 
 // A channel's compensation at an attenuation; any channel is answered. Refusals 1, 20, 7, the map's.
@@ -18,5 +18,5 @@ pub extern "C" fn skv_c6_get_chan_compens(
 ) -> SkvReading
     ensures { result ≡ reading_c (chan_compens_of lengths.now dump.now map.now unit channel atten) }
 {
-    reading_c(channel::rtc_calib_get_chan_compens(dump, lengths, map, unit, channel, atten))
+    channel::rtc_calib_get_chan_compens(dump, lengths, map, unit, channel, atten).into()
 }

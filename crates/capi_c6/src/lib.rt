@@ -1,4 +1,5 @@
 // The C6's codes for C.
+// Kept: each call has the name and the parameters that include/suongkivat.h declares.
 #![tactic(auto)]
 
 pub mod channel;

@@ -1,6 +1,0 @@
--- `capi_c6::reference::skv_c6_cal_mv` meets its contract: it gives the answer of the library's own call to C.
-use mathlib.Core.Path.{◌∙◌}
-use Rattle.capi_c6.proofs.reference.skv_c6_cal_mv.Goals as goal
-
-pub returns : goal.returns
-returns c = c.voltage_c.ensures ∙ rw c.rtc_calib_cal_mv.ensures
