@@ -104,6 +104,7 @@ pub(crate) fn field_at(map: &[u8], k: usize) -> EfuseField
 }
 
 // The place of the first nonzero byte among a record's last three, or 0.
+// Kept: 0 and not `None`, since a refusal tells that number as its place, as the definition `stray_of` has it.
 fn stray(map: &[u8], k: usize) -> u8
     ensures { result ≡ stray_of map.now k }
 {
