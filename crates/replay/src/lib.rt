@@ -9,7 +9,7 @@ mod list;
 use files::load::open_named;
 use files::read::read_full;
 use list::Room;
-pub use list::{Case, Dumps, Layout, Lengths};
+pub use list::{Case, Dumps, Layout};
 use std::fmt::Display;
 use std::io::Read;
 use std::rt::Files;

@@ -27,7 +27,7 @@ pub enum Dumps {
 
 // The block lengths that cases are asked with: eleven eights, or those that each case begins with.
 #[derive(Clone, Copy)]
-pub enum Lengths {
+enum Lengths {
     Eights,
     Own,
 }
@@ -35,9 +35,29 @@ pub enum Lengths {
 // How a list is laid out: the bytes of a case, and what stands before it.
 #[derive(Clone, Copy)]
 pub struct Layout {
-    pub case: usize,
-    pub dumps: Dumps,
-    pub lengths: Lengths,
+    case: usize,
+    dumps: Dumps,
+    lengths: Lengths,
+}
+
+impl Layout {
+    // Cases of so many bytes, asked with eleven eights.
+    pub fn eights(case: usize, dumps: Dumps) -> Layout {
+        Layout {
+            case,
+            dumps,
+            lengths: Lengths::Eights,
+        }
+    }
+
+    // Cases of so many bytes, which begin with block lengths of their own.
+    pub fn own(case: usize, dumps: Dumps) -> Layout {
+        Layout {
+            case,
+            dumps,
+            lengths: Lengths::Own,
+        }
+    }
 }
 
 // A case: the words of the dump before it, with zeros behind them, and those of the reference board where dumps come in pairs; the block
