@@ -1,9 +1,7 @@
 // data/fields and data/bytes, and those of short blocks: fields of a dump, with what esp-hal reads there.
-use efuse::field;
-use efuse::field::{EfuseField, Read};
-use replay::{answer, bytes};
-use terms::refusal;
-use terms::refusal::Outcome;
+use efuse::field::{EfuseField, read_field, read_field_le};
+use replay::{Case, answer, bytes, lent};
+use terms::refusal::plain;
 
 // What lent bytes hold before a call.
 const BEFORE: u8 = 0xA5;
@@ -17,51 +15,35 @@ fn field_of(case: &[u8]) -> EfuseField {
     }
 }
 
-// Whether a reading has that number and that value.
-fn same_read(got: Read, number: u8, value: i64) -> bool {
-    let answer = match got {
-        Read::Value(value) => answer::good(value as i64),
-        Read::Refused(why) => answer::refused(why),
-    };
-    answer::same(answer, refusal::plain(number), value)
-}
-
 // Whether a field is read at 8, 16 and 32 bits as the case says.
-pub(crate) fn same_field(words: &[u32], lengths: &[u8], case: &[u8]) -> bool {
-    let dump = replay::lent(words, bytes::number8(case, 0));
-    let field = field_of(case);
-    let number = bytes::number8(case, 6);
-    let at8 = bytes::number8(case, 7) as i64;
-    let at16 = bytes::number16(case, 8) as i64;
-    let at32 = bytes::number32(case, 12) as i64;
-    same_read(field::read_field_u8(dump, lengths, field), number, at8)
-        && same_read(field::read_field_u16(dump, lengths, field), number, at16)
-        && same_read(field::read_field_u32(dump, lengths, field), number, at32)
-}
-
-// Reads a field into the first n bytes of a room.
-fn read_into(
-    dump: &[u32],
-    lengths: &[u8],
-    field: EfuseField,
-    room: &mut [u8],
-    n: usize,
-) -> Outcome {
-    let most = bytes::at_most(n, room.len());
-    field::read_field_le(dump, lengths, field, &mut room[0..most])
-}
-
-// Whether a field is read into lent bytes as the case says, and the bytes behind them are left alone.
-pub(crate) fn same_bytes(words: &[u32], lengths: &[u8], case: &[u8]) -> bool {
-    let dump = replay::lent(words, bytes::number8(case, 0));
-    let mut room = [BEFORE; 40];
-    let got = read_into(
-        dump,
+pub(crate) fn same_field(asked: Case) -> bool {
+    let Case {
         lengths,
-        field_of(case),
-        &mut room,
-        bytes::number8(case, 6) as usize,
-    );
-    answer::same_outcome(got, refusal::plain(bytes::number8(case, 7)))
-        && check::same(&room, bytes::part(case, 8, 40))
+        bytes: case,
+        ..
+    } = asked;
+    let dump = lent(asked.words, bytes::number8(case, 0));
+    let field = field_of(case);
+    let why = plain(bytes::number8(case, 6));
+    let at8 = bytes::number8(case, 7).into();
+    let at16 = bytes::number16(case, 8).into();
+    let at32 = bytes::number32(case, 12).into();
+    answer::same(read_field::<8>(dump, lengths, field), why, at8)
+        && answer::same(read_field::<16>(dump, lengths, field), why, at16)
+        && answer::same(read_field::<32>(dump, lengths, field), why, at32)
+}
+
+// Whether a field is read into the first n bytes of a room as the case says, and the bytes behind them are left alone.
+pub(crate) fn same_bytes(asked: Case) -> bool {
+    let Case {
+        lengths,
+        bytes: case,
+        ..
+    } = asked;
+    let dump = lent(asked.words, bytes::number8(case, 0));
+    let mut room = [BEFORE; 40];
+    let n = room.len().min(bytes::number8(case, 6).into());
+    let got = read_field_le(dump, lengths, field_of(case), &mut room[..n]);
+    answer::same_outcome(got, plain(bytes::number8(case, 7)))
+        && room.as_slice() == bytes::part(case, 8, 40)
 }
