@@ -1,14 +1,9 @@
 // The record that a case begins with, and who it is handed to.
-use capi::answer::{SkvOutcome, SkvRefusal};
+use capi::answer::SkvRefusal;
 use capi_line::record::SkvLineRecord;
-use line_record::record::{LineRecord, Source};
+use line_record::record::LineRecord;
 use replay::bytes;
-use terms::refusal;
-use terms::refusal::{Outcome, Refusal};
-
-const TWO_POINT: u8 = 0;
-
-const VREF: u8 = 1;
+use terms::refusal::Refusal;
 
 // C's calls take any byte for the source; the library's own take one that there is.
 #[derive(Clone, Copy)]
@@ -29,50 +24,23 @@ fn record_of(case: &[u8]) -> SkvLineRecord {
     }
 }
 
-fn with_source(cal: SkvLineRecord, source: Source) -> LineRecord {
-    LineRecord {
-        coeff_a: cal.coeff_a,
-        coeff_b: cal.coeff_b,
-        vref: cal.vref,
-        unit: cal.unit,
-        atten: cal.attenuation,
-        source,
-    }
-}
-
-pub(crate) fn to_c(case: &[u8]) -> Handed {
-    Handed::ToC(record_of(case))
-}
-
-// To the library, or to C once more where the byte names no source.
-pub(crate) fn to_library(case: &[u8]) -> Handed {
+// Whether all is the same whoever a case's record is handed to: C, and the library too where the byte names a source.
+pub(crate) fn same_by_both<S: Fn(Handed) -> bool>(case: &[u8], same: S) -> bool
+    requires { S.IsAlwaysCallable same }
+{
     let cal = record_of(case);
-    if cal.source == TWO_POINT {
-        return Handed::ToLibrary(with_source(cal, Source::TwoPoint));
-    }
-    if cal.source == VREF {
-        return Handed::ToLibrary(with_source(cal, Source::Vref));
-    }
-    Handed::ToC(cal)
+    same(Handed::ToC(cal))
+        && match LineRecord::try_from(cal) {
+            Ok(cal) => same(Handed::ToLibrary(cal)),
+            Err(_) => true,
+        }
 }
 
-// The byte of a source.
-pub(crate) fn source_number(source: Source) -> u8 {
-    match source {
-        Source::TwoPoint => TWO_POINT,
-        Source::Vref => VREF,
-    }
-}
-
-// What C is told of a refusal and of an outcome, as the library has it.
-pub(crate) fn refusal_from(why: SkvRefusal) -> Refusal {
-    Refusal {
+// What C is to be told of a refusal.
+pub(crate) fn told_c(why: Refusal) -> SkvRefusal {
+    SkvRefusal {
         number: why.number,
         record: why.record,
         place: why.place,
     }
-}
-
-pub(crate) fn outcome_from(outcome: SkvOutcome) -> Outcome {
-    refusal::outcome_of(refusal_from(outcome.refusal))
 }

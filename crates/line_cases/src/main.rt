@@ -7,89 +7,18 @@ mod fill;
 mod handed;
 mod two_boards;
 
-use replay::{Layout, lengths};
-use std::rt::Files;
-
-#[derive(Clone, Copy)]
-enum List {
-    Decode,
-    Convert,
-    Fill,
-    Stretches,
-    ShortDecode,
-    Samples,
-}
-
-fn layout_of(list: List) -> Layout {
-    match list {
-        List::Decode => Layout {
-            case: 68,
-            per_dump: 32,
-            paired: false,
-        },
-        List::Convert => Layout {
-            case: 24,
-            per_dump: 0,
-            paired: false,
-        },
-        List::Fill => Layout {
-            case: 8208,
-            per_dump: 0,
-            paired: false,
-        },
-        List::Stretches => Layout {
-            case: 28,
-            per_dump: 0,
-            paired: false,
-        },
-        List::ShortDecode => Layout {
-            case: 84,
-            per_dump: 32,
-            paired: false,
-        },
-        List::Samples => Layout {
-            case: 80,
-            per_dump: 32,
-            paired: true,
-        },
-    }
-}
-
-// Whether the library answers a case as the list says.
-fn same<'a>(
-    list: List,
-    words: &'a [u32; replay::WORDS],
-    reference: &'a [u32; replay::WORDS],
-    case: &'a [u8; replay::CASE],
-) -> bool {
-    let eights = lengths::eights();
-    let own = lengths::of(case);
-    let behind = lengths::behind(case);
-    match list {
-        List::Decode => decode::same_decode(words, &eights, case),
-        List::Convert => convert::same_convert(case),
-        List::Fill => fill::same_fill(case),
-        List::Stretches => fill::same_stretch(case),
-        List::ShortDecode => decode::same_decode(words, own, behind),
-        List::Samples => two_boards::same_sample(words, reference, own, behind),
-    }
-}
-
-// Compares a list to its end.
-fn replay_list<R: Files + Print>(rt: &R, list: List, name: &[u8]) {
-    let mut run = replay::open(rt, name, layout_of(list));
-    while 0 < run.left {
-        let same = same(list, &run.words, &run.reference, &run.case);
-        run = replay::step(rt, name, run, same);
-    }
-    replay::close(rt, name, run);
-}
+use convert::same_convert;
+use decode::same_decode;
+use fill::{same_fill, same_stretch};
+use replay::Dumps::{Absent, Each, Pairs};
+use replay::{Layout, replay_list};
+use two_boards::same_sample;
 
 fn main(rt: HostRuntime) {
-    replay_list(&rt, List::Decode, b"decode");
-    replay_list(&rt, List::Convert, b"convert");
-    replay_list(&rt, List::Fill, b"fill");
-    replay_list(&rt, List::Stretches, b"stretches");
-    replay_list(&rt, List::ShortDecode, b"short_decode");
-    replay_list(&rt, List::Samples, b"samples");
+    replay_list(&rt, b"decode", Layout::eights(68, Each(32)), same_decode);
+    replay_list(&rt, b"convert", Layout::eights(24, Absent), same_convert);
+    replay_list(&rt, b"fill", Layout::eights(8208, Absent), same_fill);
+    replay_list(&rt, b"stretches", Layout::eights(28, Absent), same_stretch);
+    replay_list(&rt, b"short_decode", Layout::own(84, Each(32)), same_decode);
+    replay_list(&rt, b"samples", Layout::own(80, Pairs(32)), same_sample);
 }
