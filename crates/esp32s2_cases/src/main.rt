@@ -3,50 +3,11 @@
 
 mod calls;
 
-use replay::{Layout, lengths};
-use std::rt::Files;
-
-#[derive(Clone, Copy)]
-enum List {
-    Calls,
-    ShortCalls,
-}
-
-fn layout_of(list: List) -> Layout {
-    match list {
-        List::Calls => Layout {
-            case: 32,
-            per_dump: 64,
-            paired: false,
-        },
-        List::ShortCalls => Layout {
-            case: 48,
-            per_dump: 64,
-            paired: false,
-        },
-    }
-}
-
-// Whether the library answers a case as the list says.
-fn same<'a>(list: List, words: &'a [u32; replay::WORDS], case: &'a [u8; replay::CASE]) -> bool {
-    let eights = lengths::eights();
-    match list {
-        List::Calls => calls::same_call(words, &eights, case),
-        List::ShortCalls => calls::same_call(words, lengths::of(case), lengths::behind(case)),
-    }
-}
-
-// Compares a list to its end.
-fn replay_list<R: Files + Print>(rt: &R, list: List, name: &[u8]) {
-    let mut run = replay::open(rt, name, layout_of(list));
-    while 0 < run.left {
-        let same = same(list, &run.words, &run.case);
-        run = replay::step(rt, name, run, same);
-    }
-    replay::close(rt, name, run);
-}
+use calls::same_call;
+use replay::Dumps::Each;
+use replay::{Layout, replay_list};
 
 fn main(rt: HostRuntime) {
-    replay_list(&rt, List::Calls, b"calls");
-    replay_list(&rt, List::ShortCalls, b"short_calls");
+    replay_list(&rt, b"calls", Layout::eights(32, Each(64)), same_call);
+    replay_list(&rt, b"short_calls", Layout::own(48, Each(64)), same_call);
 }
