@@ -43,10 +43,10 @@ fn run_case(rt: &HostRuntime, case: &[u8; FILES]) {
 
 // Reads the numbers of so many files, at most all, and tells whether there were so many.
 fn read_numbers<F: Read>(cases: &mut F, files: usize, case: &mut [u8]) -> bool {
-    if case.len() < files {
-        return false;
+    match case.get_mut(..files) {
+        Some(numbers) => read_full(cases, numbers).is_ok_and(|read| read == files),
+        None => false,
     }
-    read_full(cases, &mut case[0..files]).len == files
 }
 
 // Runs the next case, which has the numbers of so many files, and tells whether there was one.

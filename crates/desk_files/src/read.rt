@@ -1,14 +1,14 @@
 // The boards' dumps, their list of block lengths and their map, by the files' names. A missing file counts as empty, but for the list, where
 // it means eleven eights; one that can't be read is told with the system's reason.
-ghost use Rattle.std.specs.Prelude.{◌≡◌};
-ghost use Rattle.io.specs.Counts.{IsPrefixLen};
+ghost use Rattle.std.specs.Prelude.{◌≡◌, option_map};
 ghost use Rattle.desk_files.specs.Read.{list_of};
 
+use arrayvec::ArrayVec;
 use dump_file::load::load_dump;
 use dumps::lengths::BLOCKS;
 use fault_words::told::put_fault;
 use faults::fault::File;
-use files::load::load;
+use files::load::{Unread, load};
 use files::write::write_all;
 use std::io::Write;
 use std::rt::Files;
@@ -16,147 +16,106 @@ use std::rt::Files;
 // Eleven eights, in the room for a list.
 const NO_FILE: [u8; 12] = [8, 8, 8, 8, 8, 8, 8, 8, 8, 8, 8, 0];
 
-// A dump file: room for its words, how many stand there, and whether the file couldn't be read, which has been told.
-#[derive(Clone, Copy)]
-pub struct Dump {
-    pub words: [u32; 88],
-    pub len: usize,
-    pub unread: bool,
-}
-
-// The map, likewise, by its bytes.
-#[derive(Clone, Copy)]
-pub struct Map {
-    pub bytes: [u8; 49],
-    pub len: usize,
-    pub unread: bool,
-}
-
-// The list of block lengths, likewise: room for one more than it has, so that a longer file is seen to be one.
-#[derive(Clone, Copy)]
-pub struct Lengths {
-    pub bytes: [u8; 12],
-    pub len: usize,
-    pub unread: bool,
-}
-
 // Tells what is wrong with a file, by its bytes; with the map, by the list of block lengths.
-pub(crate) fn tell<W: Write>(
-    errors: &mut W,
-    file: File,
-    missing: bool,
-    lengths: &[u8],
-    bytes: &[u8],
-) {
+pub(crate) fn tell<W: Write>(errors: &mut W, file: File, lengths: &[u8], bytes: Option<&[u8]>) {
     let mut line = [0u8; 160];
-    let len = put_fault(&mut line, file, missing, lengths, bytes);
+    let len = put_fault(&mut line, file, lengths, bytes);
     // where even this can't be written, nobody is left to be told
     let _ = write_all(errors, &line[..len]);
 }
 
-// Reads a dump file, and tells what is wrong with it.
+// Reads a file's bytes, as many as there is room for, and tells what is wrong with them. `None` is a name that no file has.
+fn read_bytes<R: Files, W: Write, const ROOM: usize>(
+    rt: &R,
+    path: &[u8],
+    file: File,
+    lengths: &[u8],
+    unread: &[u8],
+    errors: &mut W,
+) -> Result<Option<ArrayVec<u8, ROOM>>, Unread> {
+    let mut room = [0u8; ROOM];
+    let Some(len) = load(rt, path, &mut room, unread, errors)? else {
+        tell(errors, file, lengths, None);
+        return Ok(None);
+    };
+    tell(errors, file, lengths, Some(&room[..len]));
+    let mut bytes = ArrayVec::from(room);
+    bytes.truncate(len);
+    Ok(Some(bytes))
+}
+
+// Reads a dump file's words; there are none where it has another length than a dump's, or there is no such file.
 fn read_dump<R: Files, W: Write>(
     rt: &R,
     path: &[u8],
     file: File,
     unread: &[u8],
     errors: &mut W,
-) -> Dump
-    ensures { IsPrefixLen result.len result.words }
-{
-    let mut bytes = [0u8; 353];
-    let loaded = load(rt, path, &mut bytes, unread, errors);
-    let read = loaded.len;
-    let mut words = [0u32; 88];
-    let len = load_dump(&bytes[..read], &mut words);
-    if !loaded.unread {
-        tell(errors, file, loaded.missing, b"", &bytes[..read]);
-    }
-    Dump {
-        words,
-        len,
-        unread: loaded.unread,
-    }
+) -> Result<ArrayVec<u32, 88>, Unread> {
+    // one byte more than a dump file has, so that a longer one is seen to be one; likewise with the list and the map
+    let bytes: ArrayVec<u8, 353> = read_bytes(
+        rt, path, file, b"", unread, errors,
+    )?.unwrap_or_default();
+    let mut room = [0u32; 88];
+    let len = load_dump(&bytes, &mut room);
+    let mut words = ArrayVec::from(room);
+    words.truncate(len);
+    Ok(words)
 }
 
 // Reads the field board's dump.
-pub fn read_field<R: Files, W: Write>(rt: &R, path: &[u8], errors: &mut W) -> Dump
-    ensures { IsPrefixLen result.len result.words }
-{
-    read_dump(
-        rt,
-        path,
-        File::Field,
-        b"field.bin: it can't be read, so the desk stops here",
-        errors,
-    )
+pub fn read_field<R: Files, W: Write>(
+    rt: &R,
+    path: &[u8],
+    errors: &mut W,
+) -> Result<ArrayVec<u32, 88>, Unread> {
+    let unread = b"field.bin: it can't be read, so the desk stops here";
+    read_dump(rt, path, File::Field, unread, errors)
 }
 
 // Reads the reference board's dump.
-pub fn read_reference<R: Files, W: Write>(rt: &R, path: &[u8], errors: &mut W) -> Dump
-    ensures { IsPrefixLen result.len result.words }
-{
-    read_dump(
-        rt,
-        path,
-        File::Reference,
-        b"reference.bin: it can't be read, so the desk stops here",
-        errors,
-    )
+pub fn read_reference<R: Files, W: Write>(
+    rt: &R,
+    path: &[u8],
+    errors: &mut W,
+) -> Result<ArrayVec<u32, 88>, Unread> {
+    let unread = b"reference.bin: it can't be read, so the desk stops here";
+    read_dump(rt, path, File::Reference, unread, errors)
 }
 
 // What is gone by where the file gave these bytes: they themselves, or eleven eights where there is no such file.
-fn list_of(missing: bool, bytes: [u8; 12], len: usize, unread: bool) -> Lengths
-    ensures { result ≡ list_of missing bytes len unread }
+fn list_of(found: Option<ArrayVec<u8, 12>>) -> ArrayVec<u8, 12>
+    ensures { result.items ≡ list_of (option_map (λ list. list.items) found) }
 {
-    if missing {
-        return Lengths {
-            bytes: NO_FILE,
-            len: BLOCKS,
-            unread,
-        };
+    match found {
+        Some(list) => list,
+        None => {
+            let mut list = ArrayVec::from(NO_FILE);
+            list.truncate(BLOCKS);
+            list
+        }
     }
-    Lengths { bytes, len, unread }
 }
 
 // Reads the list of block lengths.
-pub fn read_lengths<R: Files, W: Write>(rt: &R, path: &[u8], errors: &mut W) -> Lengths
-    ensures { IsPrefixLen result.len result.bytes }
-{
-    let mut bytes = [0u8; 12];
-    let loaded = load(
-        rt,
-        path,
-        &mut bytes,
-        b"lengths.bin: it can't be read, so the desk stops here",
-        errors,
-    );
-    let len = loaded.len;
-    if !loaded.unread {
-        tell(errors, File::Lengths, loaded.missing, b"", &bytes[..len]);
-    }
-    list_of(loaded.missing, bytes, len, loaded.unread)
+pub fn read_lengths<R: Files, W: Write>(
+    rt: &R,
+    path: &[u8],
+    errors: &mut W,
+) -> Result<ArrayVec<u8, 12>, Unread> {
+    let unread = b"lengths.bin: it can't be read, so the desk stops here";
+    let found = read_bytes(rt, path, File::Lengths, b"", unread, errors)?;
+    Ok(list_of(found))
 }
 
 // Reads the map, which goes by that list.
-pub fn read_map<R: Files, W: Write>(rt: &R, path: &[u8], lengths: &[u8], errors: &mut W) -> Map
-    ensures { IsPrefixLen result.len result.bytes }
-{
-    let mut bytes = [0u8; 49];
-    let loaded = load(
-        rt,
-        path,
-        &mut bytes,
-        b"map.bin: it can't be read, so the desk stops here",
-        errors,
-    );
-    let len = loaded.len;
-    if !loaded.unread {
-        tell(errors, File::Map, loaded.missing, lengths, &bytes[..len]);
-    }
-    Map {
-        bytes,
-        len,
-        unread: loaded.unread,
-    }
+pub fn read_map<R: Files, W: Write>(
+    rt: &R,
+    path: &[u8],
+    lengths: &[u8],
+    errors: &mut W,
+) -> Result<ArrayVec<u8, 49>, Unread> {
+    let unread = b"map.bin: it can't be read, so the desk stops here";
+    let found = read_bytes(rt, path, File::Map, lengths, unread, errors)?;
+    Ok(found.unwrap_or_default())
 }
