@@ -41,31 +41,21 @@ fn run_case(rt: &HostRuntime, case: &[u8; FILES]) {
     );
 }
 
-// Reads the numbers of so many files, at most all, and tells whether there were so many.
-fn read_numbers<F: Read>(cases: &mut F, files: usize, case: &mut [u8]) -> bool {
-    match case.get_mut(..files) {
-        Some(numbers) => read_full(cases, numbers).is_ok_and(|read| read == files),
-        None => false,
-    }
-}
-
-// Runs the next case, which has the numbers of so many files, and tells whether there was one.
-fn run_next<F: Read>(rt: &HostRuntime, cases: &mut F, files: usize, number: u64) -> bool {
+// Reads the next case, which has the numbers of so many files, at most all; `None` where there isn't one.
+fn read_case<F: Read>(cases: &mut F, files: usize) -> Option<[u8; FILES]> {
     let mut case = [MISSING; FILES];
-    if !read_numbers(cases, files, &mut case) {
-        return false;
-    }
-    write_heading(rt, number);
-    run_case(rt, &case);
-    true
+    let read = read_full(cases, case.get_mut(..files)?).ok()?;
+    (read == files).then_some(case)
 }
 
 // Runs the cases to their end, numbered from the first on, and gives the number after theirs.
 fn run_cases<F: Read>(rt: &HostRuntime, cases: &mut F, files: usize, first: u64) -> u64 {
     for number in first..u64::MAX {
-        if !run_next(rt, cases, files, number) {
+        let Some(case) = read_case(cases, files) else {
             return number;
-        }
+        };
+        write_heading(rt, number);
+        run_case(rt, &case);
     }
     u64::MAX
 }
