@@ -5,7 +5,7 @@ use mathlib.Core.List.{List, [], ◌∷◌, map}
 use Prim.Native.Nat.{ℕ, zero, suc, ◌+◌, ◌*◌, ◌/◌, ◌≤◌, ◌<◌, ◌^◌}
 use native.Mathlib.Omega.{arith}
 use lib.IntN.{ℤ, pos, negsuc, neg_ℤ, nat_abs, ◌-ℤ◌}
-use lib.ListN.{length}
+use lib.ListN.{length, get_or}
 use lib.Signed.{quot_z}
 use mir.Syntax.{w64}
 use mir.Val.{SFits}
@@ -15,9 +15,9 @@ use Rattle.curves.specs.Decimal.{Decimal, coefficient}
 use Rattle.curves.specs.Curves.{curve_in}
 use Rattle.curves.specs.Error.{horner, error_of, corrected_of, less_error_of}
 use Rattle.curves.specs.Curves.{numbered}
-use Rattle.curves.specs.Flat.{curve_of}
+use Rattle.curves.specs.Flat.{curves, curve_of}
 use Rattle.curves.specs.NothingLost.{Steps}
-use Rattle.curves.proofs.Parts.{curve_of_lem}
+use Rattle.curves.proofs.Parts.{curve_lem, curve_of_lem}
 use Rattle.curves.proofs.Sound.{curves_sound}
 
 -- the error of a line answer of 0, and of any other: an empty table's polynomial is 0
@@ -73,30 +73,40 @@ unfolding horner
 poly_fits [] v steps = record { sfits = omega arith }
 poly_fits (c ∷ cs) v steps = (steps 0 (omega arith)).1
 
--- a table's curve at an attenuation: its polynomial, which the code works out, and its error
+-- a curve: its polynomial, which the code works out, and its error
+module _ (k : ℕ) (known : k < 40) where
+  pub error_by : (v : ℕ) {p : ℤ} → (v ≡ 0 → ⊥) → p ≡ horner (curve_of k) v → quot_z p (pos (2 ^ 52)) ≡ error_of (get_or curves k []) v
+  unfolding curve_of
+  error_by v some is = rw is (sym (error_quot (get_or curves k []) v some))
+
+  pub exact_by : (v : ℕ) → v ≤ 4095 → Exact v (error_of (get_or curves k []) v)
+  exact_by zero most = rw (error_zero (get_or curves k [])) (exact 0 (pos 0) (omega arith) (omega arith) (omega arith))
+  exact_by (suc n) most =
+      let cs : List ℤ = curve_of k in
+      let sound = curves_sound k known in
+      rw (← error_by (suc n) {p = horner cs (suc n)} (λ e. omega arith) refl)
+      (exact_quot (suc n) (horner cs (suc n)) most
+      (poly_fits cs (suc n) (sound.0 (suc n) (omega arith) most))
+      (sound.1 (suc n) (omega arith) most))
+
+-- the same of a table's curve at an attenuation
 module _ (table atten : ℕ) (known : table < 10) (inside : atten ≤ 3) where
   abbrev curve : List Decimal
   curve = curve_in (numbered table) atten
-
-  pub error_by : (v : ℕ) {p : ℤ} → (v ≡ 0 → ⊥) → p ≡ horner (curve_of (4 * table + atten)) v
-      → quot_z p (pos (2 ^ 52)) ≡ error_of curve v
-  error_by v some is = rw (is, curve_of_lem table atten (omega arith)) (sym (error_quot curve v some))
 
   pub curve_steps : (v : ℕ) → 0 < v → v ≤ 4095 → Steps (map coefficient curve) v
   curve_steps v some most = rw (← curve_of_lem table atten (omega arith)) ((curves_sound (4 * table + atten) (omega arith)).0 v some most)
 
   pub error_exact : (v : ℕ) → v ≤ 4095 → Exact v (error_of curve v)
-  error_exact zero most = rw (error_zero curve) (exact 0 (pos 0) (omega arith) (omega arith) (omega arith))
-  error_exact (suc n) most =
-      let cs : List ℤ = curve_of (4 * table + atten) in
-      let sound = curves_sound (4 * table + atten) (omega arith) in
-      rw (← error_by (suc n) {p = horner cs (suc n)} (λ e. omega arith) refl)
-      (exact_quot (suc n) (horner cs (suc n)) most
-      (poly_fits cs (suc n) (sound.0 (suc n) (omega arith) most))
-      (sound.1 (suc n) (omega arith) most))
+  error_exact v most = rw (← curve_lem table atten (omega arith)) (exact_by (4 * table + atten) (omega arith) v most)
 
 -- for a caller that has checked its input
 pub less_error_in : (table atten v : ℕ) → table ≤ 9 → atten ≤ 3 → v ≤ 4095
     → less_error_of table atten v ≡ corrected_of (curve_in (numbered table) atten) v
 unfolding less_error_of
 less_error_in table atten v t a h = simp (le-leb _ _ t, le-leb _ _ a, le-leb _ _ h)
+
+-- and for the call itself, which goes by the curve's number
+pub less_error_by : (table atten v : ℕ) → table ≤ 9 → atten ≤ 3 → v ≤ 4095
+    → less_error_of table atten v ≡ corrected_of (get_or curves (4 * table + atten) []) v
+less_error_by table atten v t a h = rw (curve_lem table atten (omega arith)) (less_error_in table atten v t a h)

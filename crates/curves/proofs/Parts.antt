@@ -27,9 +27,13 @@ by_fours (x ∷ ts) (suc t) a h =
     let next : 4 * suc t + a ≡ 4 + (4 * t + a) = omega arith in
     rw next (get_or-append-add (by_atten x) (flat_map by_atten ts) (4 * t + a) [] ∙ by_fours ts t a h)
 
+pub curve_lem : (t a : ℕ) → a < 4 → get_or curves (4 * t + a) [] ≡ curve_in (numbered t) a
+unfolding curves
+curve_lem t a h = by_fours tables t a h
+
 pub curve_of_lem : (t a : ℕ) → a < 4 → curve_of (4 * t + a) ≡ map coefficient (curve_in (numbered t) a)
-unfolding curve_of curves
-curve_of_lem t a h = ap (map coefficient) (by_fours tables t a h)
+unfolding curve_of
+curve_of_lem t a h = ap (map coefficient) (curve_lem t a h)
 
 -- curve k among all, laid end to end
 abbrev start_of : List (List Decimal) → ℕ → ℕ

@@ -29,66 +29,76 @@ fn poly(coeffs: &[i64], v: u16) -> i64
     poly
 }
 
-// The error polynomial of curve k at v: that of the len coefficients of the flat table from start on. That they are curve k's is asked of
-// the caller; the code has no use for k.
-fn part(k: u8, start: usize, len: usize, v: u16) -> i64
-    requires is_part { IsTrue (is_part k start len) }
-    requires least { 1 ≤ v }
-    requires most { v ≤ 4095 }
-    ensures { result ≡ horner (curve_of k) v }
-{
-    poly(&coeffs()[start..start + len], v)
+// A line answer v that curve k is to correct: k is one of the forty, and v no more than they are for.
+#[derive(Clone, Copy)]
+pub(crate) struct Correction {
+    pub(crate) k: u8,
+    pub(crate) v: u16,
+    ghost known: { k < 40 },
+    ghost inside: { v ≤ 4095 },
 }
 
-// The error polynomial of curve k at v. Each arm gives a curve's start in the flat table and its length as numbers that are known when
-// this is compiled, so that no table is left in the code, but each curve's own few steps with its own coefficients.
-// Kept: an arm a curve: with a `static` of starts and lengths, read when it runs, calls by one curve took 1.3 to 1.6 times as long (in Rust).
-#[tactic(auto, unfolding(crate::specs::Flat::curves))]
-pub(crate) fn poly_at(k: u8, v: u16) -> i64
-    requires { (k < 40) × (1 ≤ v) × (v ≤ 4095) }
-    ensures { result ≡ horner (curve_of k) v }
-{
-    match k {
-        0 => part(k, 0, 3, v), // esp32c3 CURVES_COEFFS1
-        1 => part(k, 3, 3, v),
-        2 => part(k, 6, 3, v),
-        3 => part(k, 9, 5, v),
-        4 => part(k, 14, 3, v), // esp32c5 CURVES_COEFFS1
-        5 => part(k, 17, 3, v),
-        6 => part(k, 20, 3, v),
-        7 => part(k, 23, 3, v),
-        8 => part(k, 26, 3, v), // esp32c6 CURVES_COEFFS1
-        9 => part(k, 29, 3, v),
-        10 => part(k, 32, 3, v),
-        11 => part(k, 35, 3, v),
-        12 => part(k, 38, 2, v), // esp32c61 CURVES_COEFFS1
-        13 => part(k, 40, 2, v),
-        14 => part(k, 42, 2, v),
-        15 => part(k, 44, 3, v),
-        16 => part(k, 47, 0, v), // esp32c6 CURVES_COEFFS1_V2
-        17 => part(k, 47, 0, v),
-        18 => part(k, 47, 3, v),
-        19 => part(k, 50, 3, v),
-        20 => part(k, 53, 3, v), // esp32h2 CURVES_COEFFS1
-        21 => part(k, 56, 3, v),
-        22 => part(k, 59, 3, v),
-        23 => part(k, 62, 3, v),
-        24 => part(k, 65, 2, v), // esp32p4 CURVES_COEFFS1
-        25 => part(k, 67, 2, v),
-        26 => part(k, 69, 2, v),
-        27 => part(k, 71, 2, v),
-        28 => part(k, 73, 2, v), // esp32p4 CURVES_COEFFS2
-        29 => part(k, 75, 2, v),
-        30 => part(k, 77, 2, v),
-        31 => part(k, 79, 2, v),
-        32 => part(k, 81, 3, v), // esp32s3 CURVES_COEFFS1
-        33 => part(k, 84, 3, v),
-        34 => part(k, 87, 3, v),
-        35 => part(k, 90, 5, v),
-        36 => part(k, 95, 3, v), // esp32s3 CURVES_COEFFS2
-        37 => part(k, 98, 3, v),
-        38 => part(k, 101, 3, v),
-        39 => part(k, 104, 5, v),
-        _ => unreachable!(),
+impl Correction {
+    // The error polynomial: that of the len coefficients of the flat table from start on. That they are curve k's is asked of the caller;
+    // the code has no use for k.
+    fn part(self, start: usize, len: usize) -> i64
+        requires is_part { IsTrue (is_part self.k start len) }
+        requires least { 1 ≤ self.v }
+        ensures { result ≡ horner (curve_of self.k) self.v }
+    {
+        poly(&coeffs()[start..start + len], self.v)
+    }
+
+    // The error polynomial. Each arm gives a curve's start in the flat table and its length as numbers that are known when this is
+    // compiled, so that no table is left in the code, but each curve's own few steps with its own coefficients.
+    // Kept: an arm a curve: by a `static` of starts and lengths, read as it runs, calls by one curve took 1.3 to 1.6 times as long (in Rust).
+    #[tactic(auto, unfolding(crate::specs::Flat::curves))]
+    pub(crate) fn poly_at(self) -> i64
+        requires { 1 ≤ self.v }
+        ensures { result ≡ horner (curve_of self.k) self.v }
+    {
+        match self.k {
+            0 => self.part(0, 3), // esp32c3 CURVES_COEFFS1
+            1 => self.part(3, 3),
+            2 => self.part(6, 3),
+            3 => self.part(9, 5),
+            4 => self.part(14, 3), // esp32c5 CURVES_COEFFS1
+            5 => self.part(17, 3),
+            6 => self.part(20, 3),
+            7 => self.part(23, 3),
+            8 => self.part(26, 3), // esp32c6 CURVES_COEFFS1
+            9 => self.part(29, 3),
+            10 => self.part(32, 3),
+            11 => self.part(35, 3),
+            12 => self.part(38, 2), // esp32c61 CURVES_COEFFS1
+            13 => self.part(40, 2),
+            14 => self.part(42, 2),
+            15 => self.part(44, 3),
+            16 => self.part(47, 0), // esp32c6 CURVES_COEFFS1_V2
+            17 => self.part(47, 0),
+            18 => self.part(47, 3),
+            19 => self.part(50, 3),
+            20 => self.part(53, 3), // esp32h2 CURVES_COEFFS1
+            21 => self.part(56, 3),
+            22 => self.part(59, 3),
+            23 => self.part(62, 3),
+            24 => self.part(65, 2), // esp32p4 CURVES_COEFFS1
+            25 => self.part(67, 2),
+            26 => self.part(69, 2),
+            27 => self.part(71, 2),
+            28 => self.part(73, 2), // esp32p4 CURVES_COEFFS2
+            29 => self.part(75, 2),
+            30 => self.part(77, 2),
+            31 => self.part(79, 2),
+            32 => self.part(81, 3), // esp32s3 CURVES_COEFFS1
+            33 => self.part(84, 3),
+            34 => self.part(87, 3),
+            35 => self.part(90, 5),
+            36 => self.part(95, 3), // esp32s3 CURVES_COEFFS2
+            37 => self.part(98, 3),
+            38 => self.part(101, 3),
+            39 => self.part(104, 5),
+            _ => unreachable!(),
+        }
     }
 }
