@@ -1,3 +1,4 @@
+pub mod Decoding
 pub mod Record
 pub mod VrefRecords
 pub mod When
