@@ -1,3 +1,4 @@
 pub mod Decimals
 pub mod Rooms
+pub mod Spelt
 pub mod Unique
