@@ -24,7 +24,7 @@ fn record_of(case: &[u8]) -> SkvLineRecord {
     }
 }
 
-// Whether all is the same whoever a case's record is handed to: C, and the library too where the byte names a source.
+// Whether all is the same whoever a case's record is handed to: C, and the library too where the byte names a source, 0 or 1.
 pub(crate) fn same_by_both<S: Fn(Handed) -> bool>(case: &[u8], same: S) -> bool
     requires { S.IsAlwaysCallable same }
 {
@@ -32,7 +32,7 @@ pub(crate) fn same_by_both<S: Fn(Handed) -> bool>(case: &[u8], same: S) -> bool
     same(Handed::ToC(cal))
         && match LineRecord::try_from(cal) {
             Ok(cal) => same(Handed::ToLibrary(cal)),
-            Err(_) => true,
+            Err(_) => 1 < cal.source,
         }
 }
 
