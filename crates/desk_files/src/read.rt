@@ -1,7 +1,7 @@
 // The boards' dumps, their list of block lengths and their map, by the files' names. A missing file counts as empty, but for the list, where
 // it means eleven eights; one that can't be read is told with the system's reason.
-ghost use Rattle.std.specs.Prelude.{◌≡◌, option_map};
-ghost use Rattle.desk_files.specs.Read.{list_of};
+ghost use Rattle.std.specs.Prelude.{◌≡◌, option_map, IfOk, IfSome};
+ghost use Rattle.desk_files.specs.Read.{Fits, list_of};
 
 use arrayvec::ArrayVec;
 use dump_file::load::load_dump;
@@ -32,7 +32,9 @@ fn read_bytes<R: Files, W: Write, const ROOM: usize>(
     lengths: &[u8],
     unread: &[u8],
     errors: &mut W,
-) -> Result<Option<ArrayVec<u8, ROOM>>, Unread> {
+) -> Result<Option<ArrayVec<u8, ROOM>>, Unread>
+    ensures { IfOk result (λ found. IfSome found (Fits ROOM)) }
+{
     let mut room = [0u8; ROOM];
     let Some(len) = load(rt, path, &mut room, unread, errors)? else {
         tell(errors, file, lengths, None);
@@ -51,7 +53,9 @@ fn read_dump<R: Files, W: Write>(
     file: File,
     unread: &[u8],
     errors: &mut W,
-) -> Result<ArrayVec<u32, 88>, Unread> {
+) -> Result<ArrayVec<u32, 88>, Unread>
+    ensures { IfOk result (Fits 88) }
+{
     // one byte more than a dump file has, so that a longer one is seen to be one; likewise with the list and the map
     let bytes: ArrayVec<u8, 353> = read_bytes(
         rt, path, file, b"", unread, errors,
@@ -68,7 +72,9 @@ pub fn read_field<R: Files, W: Write>(
     rt: &R,
     path: &[u8],
     errors: &mut W,
-) -> Result<ArrayVec<u32, 88>, Unread> {
+) -> Result<ArrayVec<u32, 88>, Unread>
+    ensures { IfOk result (Fits 88) }
+{
     let unread = b"field.bin: it can't be read, so the desk stops here";
     read_dump(rt, path, File::Field, unread, errors)
 }
@@ -78,7 +84,9 @@ pub fn read_reference<R: Files, W: Write>(
     rt: &R,
     path: &[u8],
     errors: &mut W,
-) -> Result<ArrayVec<u32, 88>, Unread> {
+) -> Result<ArrayVec<u32, 88>, Unread>
+    ensures { IfOk result (Fits 88) }
+{
     let unread = b"reference.bin: it can't be read, so the desk stops here";
     read_dump(rt, path, File::Reference, unread, errors)
 }
@@ -102,7 +110,9 @@ pub fn read_lengths<R: Files, W: Write>(
     rt: &R,
     path: &[u8],
     errors: &mut W,
-) -> Result<ArrayVec<u8, 12>, Unread> {
+) -> Result<ArrayVec<u8, 12>, Unread>
+    ensures { IfOk result (Fits 12) }
+{
     let unread = b"lengths.bin: it can't be read, so the desk stops here";
     let found = read_bytes(rt, path, File::Lengths, b"", unread, errors)?;
     Ok(list_of(found))
@@ -114,7 +124,9 @@ pub fn read_map<R: Files, W: Write>(
     path: &[u8],
     lengths: &[u8],
     errors: &mut W,
-) -> Result<ArrayVec<u8, 49>, Unread> {
+) -> Result<ArrayVec<u8, 49>, Unread>
+    ensures { IfOk result (Fits 49) }
+{
     let unread = b"map.bin: it can't be read, so the desk stops here";
     let found = read_bytes(rt, path, File::Map, lengths, unread, errors)?;
     Ok(found.unwrap_or_default())
