@@ -49,6 +49,7 @@ fn read_case<F: Read>(cases: &mut F, files: usize) -> Option<[u8; FILES]> {
 }
 
 // Runs the cases to their end, numbered from the first on, and gives the number after theirs.
+// Kept: a `for` over numbers: it indexes nothing; the number is a case's heading, and no file says that it ends.
 fn run_cases<F: Read>(rt: &HostRuntime, cases: &mut F, files: usize, first: u64) -> u64 {
     for number in first..u64::MAX {
         let Some(case) = read_case(cases, files) else {

@@ -16,7 +16,19 @@ use std::rt::Files;
 // Eleven eights, in the room for a list.
 const NO_FILE: [u8; 12] = [8, 8, 8, 8, 8, 8, 8, 8, 8, 8, 8, 0];
 
+// What is told of a file that can't be read, before the system's reason.
+pub(crate) fn unread(file: File) -> &'static [u8] {
+    match file {
+        File::Field => b"field.bin: it can't be read, so the desk stops here",
+        File::Reference => b"reference.bin: it can't be read, so the desk stops here",
+        File::Lengths => b"lengths.bin: it can't be read, so the desk stops here",
+        File::Map => b"map.bin: it can't be read, so the desk stops here",
+        File::Samples => b"samples.bin: it can't be read, so the desk stops here",
+    }
+}
+
 // Tells what is wrong with a file, by its bytes; with the map, by the list of block lengths.
+// Kept: a length beside lent bytes: `put_fault`, as docs/RULES.md promises it, puts its line at the start of a room and tells its length.
 pub(crate) fn tell<W: Write>(errors: &mut W, file: File, lengths: &[u8], bytes: Option<&[u8]>) {
     let mut line = [0u8; 160];
     let len = put_fault(&mut line, file, lengths, bytes);
@@ -25,18 +37,18 @@ pub(crate) fn tell<W: Write>(errors: &mut W, file: File, lengths: &[u8], bytes: 
 }
 
 // Reads a file's bytes, as many as there is room for, and tells what is wrong with them. `None` is a name that no file has.
+// Kept: a room and a length, which `load` is promised with; behind it they become the ArrayVec.
 fn read_bytes<R: Files, W: Write, const ROOM: usize>(
     rt: &R,
     path: &[u8],
     file: File,
     lengths: &[u8],
-    unread: &[u8],
     errors: &mut W,
 ) -> Result<Option<ArrayVec<u8, ROOM>>, Unread>
     ensures { IfOk result (λ found. IfSome found (Fits ROOM)) }
 {
     let mut room = [0u8; ROOM];
-    let Some(len) = load(rt, path, &mut room, unread, errors)? else {
+    let Some(len) = load(rt, path, &mut room, unread(file), errors)? else {
         tell(errors, file, lengths, None);
         return Ok(None);
     };
@@ -51,15 +63,12 @@ fn read_dump<R: Files, W: Write>(
     rt: &R,
     path: &[u8],
     file: File,
-    unread: &[u8],
     errors: &mut W,
 ) -> Result<ArrayVec<u32, 88>, Unread>
     ensures { IfOk result (Fits 88) }
 {
     // one byte more than a dump file has, so that a longer one is seen to be one; likewise with the list and the map
-    let bytes: ArrayVec<u8, 353> = read_bytes(
-        rt, path, file, b"", unread, errors,
-    )?.unwrap_or_default();
+    let bytes: ArrayVec<u8, 353> = read_bytes(rt, path, file, b"", errors)?.unwrap_or_default();
     let mut room = [0u32; 88];
     let len = load_dump(&bytes, &mut room);
     let mut words = ArrayVec::from(room);
@@ -68,6 +77,7 @@ fn read_dump<R: Files, W: Write>(
 }
 
 // Reads the field board's dump.
+// Kept: two calls over one body; one for both would take any `File`, those too that are no dump.
 pub fn read_field<R: Files, W: Write>(
     rt: &R,
     path: &[u8],
@@ -75,8 +85,7 @@ pub fn read_field<R: Files, W: Write>(
 ) -> Result<ArrayVec<u32, 88>, Unread>
     ensures { IfOk result (Fits 88) }
 {
-    let unread = b"field.bin: it can't be read, so the desk stops here";
-    read_dump(rt, path, File::Field, unread, errors)
+    read_dump(rt, path, File::Field, errors)
 }
 
 // Reads the reference board's dump.
@@ -87,8 +96,7 @@ pub fn read_reference<R: Files, W: Write>(
 ) -> Result<ArrayVec<u32, 88>, Unread>
     ensures { IfOk result (Fits 88) }
 {
-    let unread = b"reference.bin: it can't be read, so the desk stops here";
-    read_dump(rt, path, File::Reference, unread, errors)
+    read_dump(rt, path, File::Reference, errors)
 }
 
 // What is gone by where the file gave these bytes: they themselves, or eleven eights where there is no such file.
@@ -113,8 +121,7 @@ pub fn read_lengths<R: Files, W: Write>(
 ) -> Result<ArrayVec<u8, 12>, Unread>
     ensures { IfOk result (Fits 12) }
 {
-    let unread = b"lengths.bin: it can't be read, so the desk stops here";
-    let found = read_bytes(rt, path, File::Lengths, b"", unread, errors)?;
+    let found = read_bytes(rt, path, File::Lengths, b"", errors)?;
     Ok(list_of(found))
 }
 
@@ -127,7 +134,6 @@ pub fn read_map<R: Files, W: Write>(
 ) -> Result<ArrayVec<u8, 49>, Unread>
     ensures { IfOk result (Fits 49) }
 {
-    let unread = b"map.bin: it can't be read, so the desk stops here";
-    let found = read_bytes(rt, path, File::Map, lengths, unread, errors)?;
+    let found = read_bytes(rt, path, File::Map, lengths, errors)?;
     Ok(found.unwrap_or_default())
 }
