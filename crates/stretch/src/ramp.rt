@@ -23,20 +23,18 @@ pub(crate) fn ramp(slope: Slope, divisor: u32, out: &mut [u16])
 }
 
 // Writes the blends of the line's and the lookup's quotients, where x of the blend's 64 counts are gone at the first.
-// Kept: `gone`, counted by hand; taken from the index of `enumerate()` it made the blend 3 to 6 percent slower.
 pub(crate) fn blend_ramps(line: Slope, lut: Slope, x: u32, out: &mut [u16])
     requires { Blended line lut x (length out.old) }
     ensures { out.new ≡ tab (λ k. blend_of (along line k / 65536) (along lut k / 12800) (x + k)) (length out.old) }
 {
     let mut line_sum = line.sum;
     let mut lut_sum = lut.sum;
-    let mut gone = x;
-    for place in out.iter_mut() {
+    for (k, place) in out.iter_mut().enumerate() {
+        let gone = x + k as u32;
         let y1 = (line_sum / COEFF_A_SCALE) as u16;
         let y2 = (lut_sum / LUT_SCALE) as u16;
         *place = interpolate_two_points(y1, y2, (BLEND - gone) as u8, gone as u8) as u16;
         line_sum += line.rise;
         lut_sum += lut.rise;
-        gone += 1;
     }
 }
