@@ -5,13 +5,12 @@ ghost use Rattle.curves.specs.Error.{error_of, corrected_of, less_error_of};
 ghost use Rattle.curves.specs.Flat.{curves};
 
 use crate::polynomial::Correction;
+use terms::refusal::LAST_ATTEN;
 
 // What a coefficient of 1 stands as.
 const COEFF_MUL: i64 = 1 << 52;
 
 pub const LAST_TABLE: u8 = 9;
-
-const LAST_ATTEN: u8 = 3;
 
 pub const LARGEST_LINE: u16 = 4095;
 

@@ -51,7 +51,7 @@ impl Correction {
 
     // The error polynomial. Each arm gives a curve's start in the flat table and its length as numbers that are known when this is
     // compiled, so that no table is left in the code, but each curve's own few steps with its own coefficients.
-    // Kept: an arm a curve: by a `static` of starts and lengths, read as it runs, calls by one curve took 1.3 to 1.6 times as long (in Rust).
+    // Kept: an arm a curve: by a `static` of both, calls by one took 1.3 to 1.6 times as long (in Rust): H2's 1.14, S3's 1.12 would miss the bar 1.35.
     #[tactic(auto, unfolding(crate::specs::Flat::curves))]
     pub(crate) fn poly_at(self) -> i64
         requires { 1 ≤ self.v }
