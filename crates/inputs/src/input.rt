@@ -9,9 +9,8 @@ use maps::map::check_map_only;
 use terms::chip::MapChip;
 use terms::refusal::{Refusal, check_unit};
 
-// Kept: a dump, its list and a map apart, here and in who calls these: the two boards of a session share list and map, `view` takes no map,
-// `check_map` no dump, and the calls for C have them apart.
 // The check of a dump, its list of block lengths and a chip's map: 1, 20, then the map's. Good where each of the map's fields may be read.
+// Kept: dump, list and map apart, here and in who calls these: a session's boards share list and map, `view` takes no map, `check_map` no dump.
 #[tactic(auto, using(crate::proofs::Tells::dump_first, maps::proofs::Told::told_second), unfolding(crate::specs::Input::fields_refusal))]
 pub fn check_fields(chip: MapChip, dump: &[u32], lengths: &[u8], map: &[u8]) -> Result<(), Refusal>
     ensures { result ≡ outcome_told (told_of lengths.now chip map.now (fields_refusal lengths.now chip dump.now map.now)) }
