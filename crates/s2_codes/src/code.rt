@@ -50,6 +50,7 @@ fn code_of(
 }
 
 // The ADC's initial code for a unit and an attenuation: from 1265 to 2127. Refusals 1, 20, 7, the map's, 12, 5.
+// Kept: two calls over one body, here and below; one for both would take any parameter, and the low reading is no code.
 pub fn rtc_calib_init_code(
     dump: &[u32],
     lengths: &[u8],
