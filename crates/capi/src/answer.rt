@@ -92,6 +92,7 @@ impl From<Result<(), Refusal>> for SkvOutcome {
 }
 
 // What C is given of a voltage, a code or a reading; its value is 0 beside a refusal.
+// Kept: an `impl` for each: C's structs are types of their own; what the impls have in common is `parts`.
 impl From<Result<Millivolt, Refusal>> for SkvVoltage {
     ghost from_gives = { λ answer told. told ≡ voltage_c answer };
 

@@ -45,6 +45,7 @@ fn check_chain(lengths: &[u8], tag: u8) -> Result<(), Refusal>
 }
 
 // A tag's field times its multiplier, or 0 where the eFuse is skipped.
+// Kept: that the eFuse is skipped is a flag, here and below, as the definition `reading_of` has it.
 fn raw(dump: &[u32], lengths: &[u8], tag: u8, skip_efuse: bool) -> i32
     requires { (skip_efuse ≡ false → Readable lengths.now dump.now (field_of (entry_at tag))) × (1 ≤ tag) × (tag < 33) }
     ensures { result ≡ term_of dump.now skip_efuse (entry_at tag) }
@@ -58,7 +59,6 @@ fn raw(dump: &[u32], lengths: &[u8], tag: u8, skip_efuse: bool) -> i32
 }
 
 // A tag's reading. It calls itself on the tag that this one depends on, whose rank is lower.
-// Kept: that the eFuse is skipped is a flag, as the definition `reading_of` has it.
 pub(crate) fn rtc_calib_parsed(dump: &[u32], lengths: &[u8], tag: u8, skip_efuse: bool) -> i32
     requires { (skip_efuse ≡ false → ChainReadable lengths.now dump.now tag) × (tag < 33) }
     ensures { result ≡ reading_of dump.now skip_efuse tag }

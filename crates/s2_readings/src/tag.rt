@@ -13,6 +13,8 @@ pub enum RtcCalibParam {
     Vinit,
 }
 
+// The one or the other by a version, or 0 where there is no such version.
+// Kept: 0 and not `None`, here and below, since tag 0 is an entry of the table, as the definition `tag_of` has it.
 #[tactic(auto, unfolding(crate::specs::Tag::by_version))]
 fn by_version(version: u8, one: u8, two: u8) -> u8
     ensures { result ≡ by_version version one two }
@@ -36,7 +38,6 @@ fn first_tag(version: u8, param: RtcCalibParam) -> u8
 }
 
 // The tag of a version, unit, attenuation and parameter, or 0 where version and parameter don't pair.
-// Kept: 0 and not `None`, since tag 0 is an entry of the table, as the definition `tag_of` has it.
 #[tactic(auto, using(crate::proofs::Tags::first_most), unfolding(crate::specs::Tag::tag_of))]
 pub(crate) fn rtc_calib_tag(version: u8, unit: u8, atten: u8, param: RtcCalibParam) -> u8
     requires { (unit ≤ 1) × (atten ≤ 3) }
