@@ -1,6 +1,6 @@
 // The C6's compensation by channel.
-ghost use Rattle.std.specs.Prelude.{◌≡◌, ◌≤◌, ◌<◌};
-ghost use Rattle.esp32c6.specs.Channel.{compens_of, chan_compens_of};
+ghost use Rattle.std.specs.Prelude.{◌≡◌};
+ghost use Rattle.esp32c6.specs.Channel.{chan_compens_of};
 
 use crate::field::ADC1_INIT_CODE_ATTEN0_CH0;
 use inputs::input::check_decoding;
@@ -13,14 +13,6 @@ use terms::signed::sign_magnitude;
 const LAST_CHANNEL: u8 = 6;
 
 const CHAN_DIFF_BITS: u8 = 4;
-
-// A signed code of four bits, weighed by the attenuation.
-fn chan_compens(chan_diff: u32, atten: u8) -> i32
-    requires { (chan_diff < 16) × (atten ≤ 3) }
-    ensures { result ≡ compens_of atten chan_diff }
-{
-    sign_magnitude(CHAN_DIFF_BITS, chan_diff as u16) * ((4 - atten) as i32)
-}
 
 // A channel's compensation at an attenuation: from -28 to 28. Any channel is answered. Refusals 1, 20, 7, the map's.
 pub fn rtc_calib_get_chan_compens(
@@ -40,5 +32,6 @@ pub fn rtc_calib_get_chan_compens(
         map,
         ADC1_INIT_CODE_ATTEN0_CH0 + (channel.min(LAST_CHANNEL) as usize),
     );
-    Ok(chan_compens(chan_diff, atten))
+    // A signed code of four bits, weighed by the attenuation.
+    Ok(sign_magnitude(CHAN_DIFF_BITS, chan_diff as u16) * ((4 - atten) as i32))
 }
