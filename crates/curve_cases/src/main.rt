@@ -4,10 +4,9 @@
 mod corrections;
 
 use corrections::{same_single, same_table};
-use replay::Dumps::Absent;
 use replay::{Layout, replay_list};
 
 fn main(rt: HostRuntime) {
-    replay_list(&rt, b"tables", Layout::eights(4100, Absent), same_table);
-    replay_list(&rt, b"single", Layout::eights(12, Absent), same_single);
+    replay_list(&rt, b"tables", Layout::eights(4100, None), same_table);
+    replay_list(&rt, b"single", Layout::eights(12, None), same_single);
 }

@@ -9,6 +9,7 @@ const GOOD: usize = 128;
 
 const GOOD_MAP: usize = 8;
 
+// Kept: no TryFrom: the numbers are data/good_maps' own (`numbered` has 4 for a C6), which has 0, 1 and 2 alone: there is none to turn down.
 fn chip_of(number: u8) -> MapChip {
     match number {
         0 => MapChip::Esp32,

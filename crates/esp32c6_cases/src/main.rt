@@ -10,10 +10,13 @@ use replay::{Layout, read, replay_list};
 fn main(rt: HostRuntime) {
     let mut map = [0u8; 120];
     read(&rt, b"map", &mut map);
-    replay_list(&rt, b"calls", Layout::eights(24, Each(128)), |case| {
+    replay_list(&rt, b"calls", Layout::eights(24, Some(Each(128))), |case| {
         same_call(&map, case)
     });
-    replay_list(&rt, b"short_calls", Layout::own(40, Each(128)), |case| {
-        same_call(&map, case)
-    });
+    replay_list(
+        &rt,
+        b"short_calls",
+        Layout::own(40, Some(Each(128))),
+        |case| { same_call(&map, case) },
+    );
 }

@@ -20,6 +20,7 @@ const INIT_CODE: u8 = 4;
 
 const CAL_CODE: u8 = 5;
 
+// Kept: no TryFrom: the numbers are the lists' own and no crate's, and the lists have 0, 1 and 2 alone: there is none to turn down.
 fn param_of(number: u8) -> RtcCalibParam {
     match number {
         0 => RtcCalibParam::Vlow,

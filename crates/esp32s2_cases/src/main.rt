@@ -8,6 +8,6 @@ use replay::Dumps::Each;
 use replay::{Layout, replay_list};
 
 fn main(rt: HostRuntime) {
-    replay_list(&rt, b"calls", Layout::eights(32, Each(64)), same_call);
-    replay_list(&rt, b"short_calls", Layout::own(48, Each(64)), same_call);
+    replay_list(&rt, b"calls", Layout::eights(32, Some(Each(64))), same_call);
+    replay_list(&rt, b"short_calls", Layout::own(48, Some(Each(64))), same_call);
 }

@@ -67,6 +67,7 @@ pub(crate) fn same_fill(Case { bytes: case, .. }: Case) -> bool {
 
 // Whether a stretch is filled as the case says: the numbers that are written have that sum, and the others are as before. A fill that
 // is refused writes none.
+// Kept: a number, and `NONE` for none: the list has document 01's number, 0 for a good answer, and the outcome is held to it as it is.
 fn same_written(handed: Handed, case: &[u8]) -> bool {
     let number = bytes::number8(case, 20);
     let mut room = [BEFORE; 4104];

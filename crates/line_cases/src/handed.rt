@@ -37,6 +37,7 @@ pub(crate) fn same_by_both<S: Fn(Handed) -> bool>(case: &[u8], same: S) -> bool
 }
 
 // What C is to be told of a refusal.
+// Kept: written by hand, and not by capi's `From`, so that a fault of C's own conversion shows.
 pub(crate) fn told_c(why: Refusal) -> SkvRefusal {
     SkvRefusal {
         number: why.number,

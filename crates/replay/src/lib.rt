@@ -46,7 +46,8 @@ pub fn replay_list<R: Files + Print, S: FnMut(Case) -> bool>(
     );
 }
 
-// Compares the cases of a list. A loop has to end, and nothing says that a file does, so the cases are counted.
+// Compares the cases of a list.
+// Kept: a `for` over numbers: it counts cases and indexes nothing; a loop has to end, and nothing says that a file does.
 fn compare<R: Print, F: Read, S: FnMut(Case) -> bool>(
     rt: &R,
     name: &[u8],

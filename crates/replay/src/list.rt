@@ -17,10 +17,9 @@ const LENGTHS: usize = 16;
 // The list of a chip whose blocks have eight words each.
 const EIGHTS: [u8; 11] = [8; 11];
 
-// The dumps of a list: none; one before each so many cases; or two, of a field board and a reference board.
+// The dumps of a list that has any: one before each so many cases; or two, of a field board and a reference board.
 #[derive(Clone, Copy)]
 pub enum Dumps {
-    Absent,
     Each(u64),
     Pairs(u64),
 }
@@ -36,13 +35,13 @@ enum Lengths {
 #[derive(Clone, Copy)]
 pub struct Layout {
     case: usize,
-    dumps: Dumps,
+    dumps: Option<Dumps>,
     lengths: Lengths,
 }
 
 impl Layout {
     // Cases of so many bytes, asked with eleven eights.
-    pub fn eights(case: usize, dumps: Dumps) -> Layout {
+    pub fn eights(case: usize, dumps: Option<Dumps>) -> Layout {
         Layout {
             case,
             dumps,
@@ -51,7 +50,7 @@ impl Layout {
     }
 
     // Cases of so many bytes, which begin with block lengths of their own.
-    pub fn own(case: usize, dumps: Dumps) -> Layout {
+    pub fn own(case: usize, dumps: Option<Dumps>) -> Layout {
         Layout {
             case,
             dumps,
@@ -94,8 +93,8 @@ impl Room {
     pub(crate) fn read_case<F: Read>(&mut self, list: &mut F, number: u64) -> bool {
         let layout = self.layout;
         match layout.dumps {
-            Dumps::Each(cases) if is_due(number, cases) => read_dump(list, &mut self.words),
-            Dumps::Pairs(cases) if is_due(number, cases) => {
+            Some(Dumps::Each(cases)) if is_due(number, cases) => read_dump(list, &mut self.words),
+            Some(Dumps::Pairs(cases)) if is_due(number, cases) => {
                 read_dump(list, &mut self.words);
                 read_dump(list, &mut self.reference);
             }
