@@ -9,5 +9,10 @@ use replay::{Layout, replay_list};
 
 fn main(rt: HostRuntime) {
     replay_list(&rt, b"calls", Layout::eights(32, Some(Each(64))), same_call);
-    replay_list(&rt, b"short_calls", Layout::own(48, Some(Each(64))), same_call);
+    replay_list(
+        &rt,
+        b"short_calls",
+        Layout::own(48, Some(Each(64))),
+        same_call,
+    );
 }

@@ -15,10 +15,25 @@ use replay::{Layout, replay_list};
 use two_boards::same_sample;
 
 fn main(rt: HostRuntime) {
-    replay_list(&rt, b"decode", Layout::eights(68, Some(Each(32))), same_decode);
+    replay_list(
+        &rt,
+        b"decode",
+        Layout::eights(68, Some(Each(32))),
+        same_decode,
+    );
     replay_list(&rt, b"convert", Layout::eights(24, None), same_convert);
     replay_list(&rt, b"fill", Layout::eights(8208, None), same_fill);
     replay_list(&rt, b"stretches", Layout::eights(28, None), same_stretch);
-    replay_list(&rt, b"short_decode", Layout::own(84, Some(Each(32))), same_decode);
-    replay_list(&rt, b"samples", Layout::own(80, Some(Pairs(32))), same_sample);
+    replay_list(
+        &rt,
+        b"short_decode",
+        Layout::own(84, Some(Each(32))),
+        same_decode,
+    );
+    replay_list(
+        &rt,
+        b"samples",
+        Layout::own(80, Some(Pairs(32))),
+        same_sample,
+    );
 }
