@@ -15,16 +15,24 @@ use Rattle.curves.specs.Curves.{Table, c6_coeffs1, c6_coeffs1_v2}
 use Rattle.curve.specs.Table.{unit0_table, unit1_table, table_of, missing}
 use Rattle.curves.specs.Curves.{tables, numbered}
 
+some_before : (ts : List Table) (t : ℕ) → t < length ts → missing (get_or (map some ts) t none) ≡ false
+some_before [] t h = absurd (omega arith)
+some_before (x ∷ ts) zero h = refl
+some_before (x ∷ ts) (suc t) h = some_before ts t (omega arith)
+
 none_after : (ts : List Table) (t : ℕ) → length ts ≤ t → missing (get_or (map some ts) t none) ≡ true
 none_after [] t h = refl
 none_after (x ∷ ts) zero h = absurd (omega arith)
 none_after (x ∷ ts) (suc t) h = none_after ts t (omega arith)
 
-numbered_none : (t : ℕ) → 10 ≤ t → missing (numbered t) ≡ true
+pub numbered_some : (t : ℕ) → t < 10 → missing (numbered t) ≡ false
+numbered_some t h = some_before tables t h
+
+pub numbered_none : (t : ℕ) → 10 ≤ t → missing (numbered t) ≡ true
 numbered_none t h = none_after tables t h
 
 -- a table has a number
-abbrev Number : Option Table → Type 0
+abbrev pub Number : Option Table → Type 0
 Number o = (t : ℕ) × (numbered t ≡ o)
 
 c6_number : (second : Bool) → Number (some (cond second c6_coeffs1_v2 c6_coeffs1))

@@ -65,8 +65,12 @@ module _ (r : LineRecord) where
       let there = converter_holds e in
       by_line _ _ _ _ _ (there_test r.unit r.atten r.vref there.2 there.3 there.1)
 
-  -- what Vref asks of them
-  fits_vref : {source : Source} → source ≡ Vref → fits_source source r ≡ has_vref_line r
+  -- what a record's source asks of them
+  pub fits_two_point : {source : Source} → source ≡ TwoPoint → fits_source source r ≡ line_in_ranges r
+  unfolding fits_source
+  fits_two_point s = rw s
+
+  pub fits_vref : {source : Source} → source ≡ Vref → fits_source source r ≡ has_vref_line r
   unfolding fits_source
   fits_vref s = rw s
 

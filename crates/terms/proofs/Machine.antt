@@ -2,7 +2,7 @@
 -- magnitude is, and a cast to an unsigned width. Assumes nothing.
 use mathlib.Core.Path.{◌≡◌, sym, ◌∙◌}
 use Prim.Native.Nat.{ℕ, ◌*◌, ◌-◌, ◌%◌, ◌^◌, ◌≤◌, ◌<◌, min}
-use native.Mathlib.Nat.{one-mul}
+use native.Mathlib.Nat.{one-mul, lt_of_lt_of_le}
 use native.Mathlib.Omega.{arith}
 use lib.Dec.{T}
 use lib.IntN.{ℤ, pos, nat_abs, neg_ℤ, ◌-ℤ◌, +ℤ_idl}
@@ -54,20 +54,24 @@ module _ (m : ℕ) (less : m < 2 ^ 31) where
   pub neg_back : to_z w32 (of_z w32 (pos 0 -ℤ to_z w32 m)) ≡ neg_ℤ (pos m)
   neg_back = to_z-of_z w32 _ neg_fits ∙ rw (to_z_pos w32 m less) (+ℤ_idl (neg_ℤ (pos m)))
 
--- a code of 16 bits in sign and magnitude, by the place of its sign, which is no higher than what no code has
-module _ (width code : ℕ) (fits : code < 2 ^ 16) {place : ℕ} (at : place ≡ min (width - 1) 16) {sign : ℕ} (e : sign ≡ 2 ^ place) where
+-- a code of up to 31 bits in sign and magnitude, by the place of its sign, which is no higher than what no code has
+module _ (most width code : ℕ) (few : most ≤ 31) (fits : code < 2 ^ most) {place : ℕ} (at : place ≡ min (width - 1) most)
+    {sign : ℕ} (e : sign ≡ 2 ^ place) where
+  small : code < 2 ^ 31
+  small = lt_of_lt_of_le fits (pow_mono few)
+
   pub plus_back : code < sign → to_z w32 code ≡ sign_magnitude width code
   plus_back h =
       let below : 2 ^ place ≤ 2 ^ (width - 1) = pow_mono (omega arith) in
-      to_z_pos w32 code (omega arith) ∙ sym (sign_plus width code (omega arith))
+      to_z_pos w32 code small ∙ sym (sign_plus width code (omega arith))
 
   pub minus_back : sign ≤ code → to_z w32 (of_z w32 (pos 0 -ℤ to_z w32 (code - sign))) ≡ sign_magnitude width code
   minus_back h =
-      neg_back (code - sign) (omega arith)
-      ∙ either 16 (width - 1)
+      neg_back (code - sign) (omega (arith, small))
+      ∙ either most (width - 1)
       (λ past.
-      let last : place ≡ 16 = omega arith in
-      let high : sign ≡ 2 ^ 16 = rw last at e in absurd (omega arith))
+      let last : place ≡ most = omega arith in
+      let high : sign ≡ 2 ^ most = rw last at e in absurd (omega arith))
       (λ near.
       let own : place ≡ width - 1 = omega arith in
       let top : sign ≡ 2 ^ (width - 1) = rw own at e in

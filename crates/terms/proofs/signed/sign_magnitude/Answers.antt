@@ -7,8 +7,8 @@ use Rattle.terms.proofs.signed.sign_magnitude.Goals as goal
 
 pub returns-then-number-sign : goal.returns-then-number-sign
 returns-then-number-sign c =
-    plus_back _ _ c.ranges.code.fits (c.min.ensures ∙ ap (λ (n : ℕ). min n 16) c.saturating_sub.ensures) (one_shifted _ (omega arith)) c.if-number-sign.true
+    plus_back 16 _ _ (omega arith) c.ranges.code.fits (c.min.ensures ∙ ap (λ (n : ℕ). min n 16) c.saturating_sub.ensures) (one_shifted _ (omega arith)) c.if-number-sign.true
 
 pub returns : goal.returns
 returns c =
-    minus_back _ _ c.ranges.code.fits (c.min.ensures ∙ ap (λ (n : ℕ). min n 16) c.saturating_sub.ensures) (one_shifted _ (omega arith)) c.if-number-sign.false
+    minus_back 16 _ _ (omega arith) c.ranges.code.fits (c.min.ensures ∙ ap (λ (n : ℕ). min n 16) c.saturating_sub.ensures) (one_shifted _ (omega arith)) c.if-number-sign.false
