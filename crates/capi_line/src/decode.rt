@@ -4,8 +4,9 @@ ghost use Rattle.esp32.specs.Decode.{decode_of};
 ghost use Rattle.capi_line.specs.Decode.{decoded_c};
 
 use crate::record::SkvLineRecord;
-use capi::answer::{SkvRefusal, parts};
+use capi::answer::SkvRefusal;
 use esp32::decode;
+use line_record::decoded::refusal_of;
 use line_record::record::{LineRecord, Source};
 use terms::refusal::Refusal;
 
@@ -32,10 +33,9 @@ impl From<Result<LineRecord, Refusal>> for SkvDecoded {
     ghost from_gives = { λ decoded told. told ≡ decoded_c decoded };
 
     fn from(decoded: Result<LineRecord, Refusal>) -> SkvDecoded {
-        let (refusal, record) = parts(decoded, NO_RECORD);
         SkvDecoded {
-            refusal,
-            record: record.into(),
+            refusal: refusal_of(decoded).into(),
+            record: decoded.unwrap_or(NO_RECORD).into(),
         }
     }
 }

@@ -4,6 +4,7 @@ ghost use Rattle.std.specs.Counts.{IsPrefixLen};
 ghost use Rattle.dump_file.specs.Load.{word_at, loaded_count, loaded_into};
 
 use dumps::dump::DUMP_WORDS;
+use terms::bytes::{u16_of, u32_of};
 
 pub const DUMP_BYTES: usize = 352;
 
@@ -13,7 +14,9 @@ fn word_at(bytes: &[u8], k: usize) -> u32
     ensures { result ≡ word_at bytes.now k }
 {
     let at = 4 * k;
-    u32::from_le_bytes([bytes[at], bytes[at + 1], bytes[at + 2], bytes[at + 3]])
+    let low = u16_of(bytes[at], bytes[at + 1]);
+    let high = u16_of(bytes[at + 2], bytes[at + 3]);
+    u32_of(low, high)
 }
 
 // Puts the words of a dump file into the lent room of 88 words, and tells how many there are: 88, or 0 where the file has another

@@ -1,8 +1,9 @@
 -- The refusal of the record check is document 01's; it has no values. A decoding's refusal and record are. Assumes nothing.
 use mathlib.Core.Path.{◌≡◌, refl, ◌∙◌}
 use Rattle.std.specs.Prelude.{Result, Ok, Err}
+use Rattle.std.specs.Result.{result_unwrap_or}
 use Rattle.terms.specs.declared.refusal.Refusal.{Refusal}
-use Rattle.terms.specs.Refusal.{plain, told, outcome_of, refusal_of}
+use Rattle.terms.specs.Refusal.{plain, told, outcome_of, refusal_of, value_of}
 use Rattle.terms.specs.Says.{Says}
 use Rattle.terms.proofs.Says.{outcome_says, told_says}
 use Rattle.line_record.specs.declared.record.LineRecord.{LineRecord}
@@ -17,6 +18,10 @@ pub decoding_read : (decoded : Result LineRecord Refusal) → decoding_refusal d
 unfolding decoding_refusal
 decoding_read (Ok r) = refl
 decoding_read (Err why) = refl
+
+pub record_read : (decoded : Result LineRecord Refusal) → result_unwrap_or decoded no_record ≡ value_of no_record decoded
+record_read (Ok r) = refl
+record_read (Err why) = refl
 
 -- beside a record plain 0; a refusal as it is, with its record of a map, beside zeros
 module _ (why : Refusal) (none : why.number ≡ 0 → why ≡ plain 0) (r : LineRecord) where

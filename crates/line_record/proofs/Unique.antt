@@ -1,6 +1,7 @@
 -- Each public call's promise, as the check reads it from the source, admits one answer per input: it is an equation. Assumes nothing.
 use mathlib.Core.Path.{sym, ◌∙◌}
 use Rattle.terms.specs.OneAnswer.{OneAnswer}
+use Rattle.line_record.proofs.decoded.refusal_of.Reads as refusal_of
 use Rattle.line_record.proofs.record.converter_in_ranges.Reads as converter_in_ranges
 use Rattle.line_record.proofs.record.good_record.Reads as good_record
 use Rattle.line_record.proofs.record.check_record.Reads as check_record
@@ -17,3 +18,6 @@ check_record_one κs a z z' e e' p q = p ∙ sym q
 
 pub uses_lookup_one : OneAnswer (λ κs z e. z) uses_lookup.Post
 uses_lookup_one κs a z z' e e' p q = p ∙ sym q
+
+pub refusal_of_one : OneAnswer (λ κs z e. z) refusal_of.Post
+refusal_of_one κs a z z' e e' p q = p ∙ sym q

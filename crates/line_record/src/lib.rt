@@ -1,4 +1,5 @@
-// The line record: what converting and filling go by.
+// The line record: what converting and filling go by; and what a decoding is refused with.
 #![tactic(auto)]
 
+pub mod decoded;
 pub mod record;

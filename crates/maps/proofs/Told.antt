@@ -11,7 +11,7 @@ use Rattle.terms.specs.declared.refusal.Refusal.{Refusal}
 use Rattle.std.specs.Prelude.{Result, Ok, Err}
 use Rattle.terms.specs.Refusal.{refuse, or_else, first_of, plain, told, outcome_told, outcome_of}
 use Rattle.terms.specs.Says.{Says}
-use Rattle.terms.proofs.Refusals.{told_good, told_refused, or_else_some, went_well, was_refused, number_is, Passed, first_stop, first_none}
+use Rattle.terms.proofs.Refusals.{told_good, or_else_some, went_well, was_refused, number_is, Passed, first_stop, first_none}
 use Rattle.terms.proofs.Says.{told_says}
 use Rattle.terms.proofs.Exactly.{case}
 use Rattle.dumps.specs.Lengths.{lengths_refusal}
@@ -56,11 +56,11 @@ module _ (lengths map : List ℕ) where
 
     pub told_stop : k < n → Passed numbers n k → {m : ℕ} → m ≡ numbers k → (m ≡ 0 → ⊥)
         → {place : ℕ} → place ≡ cond (eqb m 18) (stray_of map k) 0
-        → Err (record { number = m; «record» = k; place = place }) ≡ outcome_told (told_from lengths map first n (first_of numbers 0 n))
+        → record { number = m; «record» = k; place = place } ≡ told_from lengths map first n (first_of numbers 0 n)
     told_stop h p {m} e some at =
         let stop = first_stop numbers n k h p (sym e) some in
         let bad : of_record m ≡ true = when_of_record ((record_exactly lengths map _ k m).0 (sym e)) some in
-        told_refused _ tt (rw (stop.0, stop.1, bad, at)) some
+        rw (stop.0, stop.1, bad, at)
 
     pub told_end : n ≤ k → Passed numbers n k → Ok tt ≡ outcome_told (told_from lengths map first n (first_of numbers 0 n))
     told_end h p = rw (first_none numbers n k h p)

@@ -172,7 +172,7 @@ fn check_records(lengths: &[u8], map: &[u8], first: usize, n: usize) -> Result<(
 {
     for k in 0..n {
         if let Err(why) = check_record(lengths, map, first + k, k) {
-            return Err(Refusal {
+            return refusal::outcome_of(Refusal {
                 number: why.number,
                 record: k as u8,
                 place: told_place(map, k, why.number),
