@@ -11,6 +11,8 @@ use Rattle.capi_fields.proofs.field.skv_read_field_u32.Reads as skv_read_field_u
 use Rattle.capi_fields.proofs.field.skv_read_field_le.Reads as skv_read_field_le
 use Rattle.capi_fields.proofs.view.skv_view.Reads as skv_view
 use Rattle.capi_fields.proofs.map.skv_check_map.Reads as skv_check_map
+use Rattle.capi_fields.proofs.field.EfuseFieldFromSkvField.from.Reads as field_from
+use Rattle.capi_fields.proofs.field.SkvReadFromResultU32Refusal.from.Reads as read_c
 
 pub skv_read_field_u8_one : OneAnswer (λ κs z e. z) skv_read_field_u8.Post
 skv_read_field_u8_one κs a z z' e e' p q = p ∙ sym q
@@ -30,3 +32,9 @@ skv_view_one κs a z z' e e' p q = p.0 ∙ sym q.0
 
 pub skv_check_map_one : OneAnswer (λ κs z e. z) skv_check_map.Post
 skv_check_map_one κs a z z' e e' p q = p ∙ sym q
+
+pub field_from_one : OneAnswer (λ κs z e. z) field_from.Post
+field_from_one κs a z z' e e' p q = p ∙ sym q
+
+pub read_c_one : OneAnswer (λ κs z e. z) read_c.Post
+read_c_one κs a z z' e e' p q = p ∙ sym q

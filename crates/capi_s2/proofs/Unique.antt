@@ -12,6 +12,8 @@ use Rattle.capi_s2.proofs.code.skv_s2_init_code.Reads as skv_s2_init_code
 use Rattle.capi_s2.proofs.code.skv_s2_cal_code.Reads as skv_s2_cal_code
 use Rattle.capi_s2.proofs.reference.skv_s2_cal_mv.Reads as skv_s2_cal_mv
 use Rattle.capi_s2.proofs.encryption.skv_s2_flash_encryption.Reads as skv_s2_flash_encryption
+use Rattle.capi_s2.proofs.encryption.SkvFlashEncryptionFromResultBoolRefusal.from.Reads as flash_encryption_c
+use Rattle.capi_s2.proofs.version.SkvVersionFromResultU8Refusal.from.Reads as version_c
 
 pub skv_s2_version_one : OneAnswer (λ κs z e. z) skv_s2_version.Post
 skv_s2_version_one κs a z z' e e' p q = p ∙ sym q
@@ -45,3 +47,9 @@ skv_s2_cal_mv_one κs a z z' e e' p q = p ∙ sym q
 
 pub skv_s2_flash_encryption_one : OneAnswer (λ κs z e. z) skv_s2_flash_encryption.Post
 skv_s2_flash_encryption_one κs a z z' e e' p q = p ∙ sym q
+
+pub flash_encryption_c_one : OneAnswer (λ κs z e. z) flash_encryption_c.Post
+flash_encryption_c_one κs a z z' e e' p q = p ∙ sym q
+
+pub version_c_one : OneAnswer (λ κs z e. z) version_c.Post
+version_c_one κs a z z' e e' p q = p ∙ sym q
