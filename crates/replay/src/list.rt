@@ -1,4 +1,7 @@
 // The cases of a list, one after the other.
+ghost use Rattle.std.specs.Prelude.{◌≡◌};
+ghost use Rattle.replay.specs.declared.list.Lengths.TheVariants.{Eights, Own};
+
 use crate::bytes::{number8, number32, part};
 use files::read::read_full;
 use std::io::Read;
@@ -41,7 +44,9 @@ pub struct Layout {
 
 impl Layout {
     // Cases of so many bytes, asked with eleven eights.
-    pub fn eights(case: usize, dumps: Option<Dumps>) -> Layout {
+    pub fn eights(case: usize, dumps: Option<Dumps>) -> Layout
+        ensures { result ≡ record { case = case; dumps = dumps; lengths = Eights } }
+    {
         Layout {
             case,
             dumps,
@@ -50,7 +55,9 @@ impl Layout {
     }
 
     // Cases of so many bytes, which begin with block lengths of their own.
-    pub fn own(case: usize, dumps: Option<Dumps>) -> Layout {
+    pub fn own(case: usize, dumps: Option<Dumps>) -> Layout
+        ensures { result ≡ record { case = case; dumps = dumps; lengths = Own } }
+    {
         Layout {
             case,
             dumps,
